@@ -1,0 +1,221 @@
+-- What each question leaves when it accepts, as facts on the triangle, and all of it for an accepted triangle.
+use mathlib.Core.Path.{_≡_, refl, subst}
+use mathlib.Core.Bool.{Bool, true, not, _&&_, _||_}
+use Prim.Native.Nat.{ℕ, suc, _+_, _-_, _≤_, _<_}
+use native.Mathlib.Omega.{arith}
+use lib.Dec.{eqb, leb→le}
+use lib.IntN.{ℤ, pos, negsuc, negℤ, _-ℤ_, natAbs}
+use lib.ListN.{length}
+use lib.Signed.{leZ, _≤ℤ_, _<ℤ_, leZ-yes, ltZ-yes}
+use Rattle.integers.specs.Fraction.{size}
+use Rattle.integers.proofs.RingSolver.{con, _:-_}
+use Rattle.integers.proofs.LinearFacts.{integers, parts}
+use Rattle.integers.proofs.Order.{natAbs-≤}
+use Rattle.method.specs.Limits.{greatest-weight, greatest-amount, greatest-outstanding, greatest-figure}
+use Rattle.method.specs.Triangle.{Triangle, n, Y, S, T, w, missing, amounts-length, weights-length, openings-length, future-length, reserves-length}
+use Rattle.method.specs.Outstandings.{R, sums}
+use Rattle.method.specs.ProjectedYear.{Movement, movement, year-before}
+use Rattle.method.specs.Questions.{accepted, at, nowhere, ask, each-cell, from-to, is-zero, years-in-range, cut-in-range, input-lengths-right, lengths-right, weight-in-range, amount-right, known, outstanding-in-range, unweighted, weight-allowed, exposure-positive, figures-in-range, question-1, question-2, question-3, question-4, question-5, question-6, question-7, question-8, question-9-of-year, question-9, questions}
+use Rattle.method.specs.Claim.{Projected}
+use Rattle.method.proofs.Tests.{is-true, and-true, unless-true, from-to-true, is-zero-true, eqb-true, leb-true}
+use Rattle.method.proofs.FirstRefusal.{ask-accepted, then-accepted, first-accepted, each-cell-passed}
+
+-- ---- What questions 1 to 3 leave
+
+pub record YearsInRange (years : ℤ) : Type 0 where
+  pub counted : years ≡ pos (natAbs years)
+  pub fewest : 2 ≤ natAbs years
+  pub most : natAbs years ≤ 32
+
+pub years-in-range-true : (years : ℤ) → years-in-range years ≡ true → YearsInRange years
+unfolding years-in-range
+years-in-range-true years e = go years (from-to-true (pos 2) (pos 32) years e)
+  where
+    go : (years : ℤ) → (pos 2 ≤ℤ years) × (years ≤ℤ pos 32) → YearsInRange years
+    go (pos m) h = record { counted = refl; fewest = leb→le 2 m (h .0 .le); most = leb→le m 32 (h .1 .le) }
+    go (negsuc m) h = absurd (h .0 .le)
+
+pub record CutInRange (cut : ℤ) (years : ℕ) : Type 0 where
+  pub counted : cut ≡ pos (natAbs cut)
+  pub least : 1 ≤ natAbs cut
+  pub most : natAbs cut < years
+
+pub cut-in-range-true : (t : Triangle) → YearsInRange (t .years) → cut-in-range t ≡ true → CutInRange (t .cut) (n t)
+unfolding cut-in-range
+cut-in-range-true t y e =
+    go (t .cut) (n t) (from-to-true (pos 1) (pos (n t) -ℤ pos 1) (t .cut)
+    (subst (λ (x : ℤ). from-to (pos 1) (x -ℤ pos 1) (t .cut) ≡ true) (y .counted) e))
+  where
+    go : (cut : ℤ) (m : ℕ) → (pos 1 ≤ℤ cut) × (cut ≤ℤ (pos m -ℤ pos 1)) → CutInRange cut m
+    go (pos c) m h = record {
+      counted = refl;
+      least = leb→le 1 c (h .0 .le);
+      most = omega (arith, integers, h .1, parts (con (pos m) :- con (pos 1)));
+    }
+    go (negsuc c) m h = absurd (h .0 .le)
+
+pub record InputLengths (t : Triangle) : Type 0 where
+  pub payments : length (t .payments) ≡ amounts-length (n t)
+  pub adjustments : length (t .adjustments) ≡ amounts-length (n t)
+  pub weights : length (t .weights) ≡ weights-length (n t)
+  pub openings : length (t .openings) ≡ openings-length (Y t)
+
+pub input-lengths-right-true : (t : Triangle) → input-lengths-right t ≡ true → InputLengths t
+unfolding input-lengths-right
+input-lengths-right-true t e =
+    let a = and-true _ (eqb (length (t .openings)) (openings-length (Y t))) e in
+    let b = and-true _ (eqb (length (t .weights)) (weights-length (n t))) (a .0) in
+    let c = and-true (eqb (length (t .payments)) (amounts-length (n t))) (eqb (length (t .adjustments)) (amounts-length (n t))) (b .0) in
+    record {
+      payments = eqb-true _ _ (c .0);
+      adjustments = eqb-true _ _ (c .1);
+      weights = eqb-true _ _ (b .1);
+      openings = eqb-true _ _ (a .1);
+    }
+
+pub record AllLengths (t : Triangle) (f r : ℕ) : Type 0 where
+  pub inputs : InputLengths t
+  pub future : f ≡ future-length (n t)
+  pub reserves : r ≡ reserves-length (n t)
+
+pub lengths-right-true : (t : Triangle) (f r : ℕ) → lengths-right t f r ≡ true → AllLengths t f r
+unfolding lengths-right
+lengths-right-true t f r e =
+    let a = and-true (input-lengths-right t && eqb f (future-length (n t))) (eqb r (reserves-length (n t))) e in
+    let b = and-true (input-lengths-right t) (eqb f (future-length (n t))) (a .0) in
+    record {
+      inputs = input-lengths-right-true t (b .0);
+      future = eqb-true f (future-length (n t)) (b .1);
+      reserves = eqb-true r (reserves-length (n t)) (a .1);
+    }
+
+-- ---- What questions 4 to 9 leave, cell by cell
+
+-- an amount within the limit, and 0 where missing
+pub record AmountRight (t : Triangle) (amount : ℕ → ℕ → ℤ) (i k : ℕ) : Type 0 where
+  pub in-range : natAbs (amount i k) ≤ natAbs greatest-amount
+  pub zero-where-missing : i + k ≤ Y t → amount i k ≡ pos 0
+
+-- the figures of a projected year within the limit
+pub record FiguresInRange (m : Movement) : Type 0 where
+  pub payment : size (m .payment) ≤ℤ greatest-figure
+  pub adjustment : size (m .adjustment) ≤ℤ greatest-figure
+  pub outstanding : size (m .outstanding) ≤ℤ greatest-figure
+
+pub figures-in-range-true : (m : Movement) → figures-in-range m ≡ true → FiguresInRange m
+unfolding figures-in-range
+figures-in-range-true m e =
+    let a = and-true (leZ (size (m .payment)) greatest-figure && leZ (size (m .adjustment)) greatest-figure) (leZ (size (m .outstanding)) greatest-figure) e in
+    let b = and-true (leZ (size (m .payment)) greatest-figure) (leZ (size (m .adjustment)) greatest-figure) (a .0) in
+    record {
+      payment = leZ-yes (is-true (b .0));
+      adjustment = leZ-yes (is-true (b .1));
+      outstanding = leZ-yes (is-true (a .1));
+    }
+
+module _ (t : Triangle) where
+  pub weights-in-range : question-4 t ≡ accepted → (i k : ℕ) → 1 ≤ i → 1 ≤ k → i + k ≤ n t
+      → (pos 0 ≤ℤ w t i k) × (w t i k ≤ℤ greatest-weight)
+  unfolding question-4 weight-in-range
+  weights-in-range e i k p q h =
+      from-to-true (pos 0) greatest-weight (w t i k) (each-cell-passed (n t - 1) 4 (weight-in-range t) e i k p q (omega arith))
+
+  amounts-right : (amount : ℕ → ℕ → ℤ) → each-cell (n t) 5 (amount-right t amount) ≡ accepted
+      → (i k : ℕ) → 1 ≤ i → 1 ≤ k → i + k ≤ n t + 1 → AmountRight t amount i k
+  unfolding amount-right
+  amounts-right amount e i k p q h =
+      let in-range : Bool = from-to (negℤ greatest-amount) greatest-amount (amount i k) in
+      let both = and-true in-range (not (missing t i k) || is-zero (amount i k)) (each-cell-passed (n t) 5 (amount-right t amount) e i k p q h) in
+      record {
+        in-range = natAbs-≤ (amount i k) (natAbs greatest-amount) .1 (from-to-true (negℤ greatest-amount) greatest-amount (amount i k) (both .0));
+        zero-where-missing = λ l. is-zero-true (amount i k)
+            (unless-true (missing t i k) (is-zero (amount i k)) (both .1) (leb-true (i + k) (Y t) l));
+      }
+
+  pub payments-right : question-5 t ≡ accepted → (i k : ℕ) → 1 ≤ i → 1 ≤ k → i + k ≤ n t + 1 → AmountRight t (S t) i k
+  unfolding question-5
+  payments-right e = amounts-right (S t) (then-accepted _ _ e .0)
+
+  pub adjustments-right : question-5 t ≡ accepted → (i k : ℕ) → 1 ≤ i → 1 ≤ k → i + k ≤ n t + 1 → AmountRight t (T t) i k
+  unfolding question-5
+  adjustments-right e = amounts-right (T t) (then-accepted _ _ e .1)
+
+  pub outstandings-in-range : question-6 t ≡ accepted → (i k : ℕ) → 1 ≤ i → 1 ≤ k → i + k ≤ n t + 1 → Y t ≤ i + k
+      → (pos 0 ≤ℤ R t i k) × (R t i k ≤ℤ greatest-outstanding)
+  unfolding question-6 outstanding-in-range known
+  outstandings-in-range e i k p q h l =
+      let passed : outstanding-in-range t i k ≡ true = each-cell-passed (n t) 6 (outstanding-in-range t) e i k p q h in
+      from-to-true (pos 0) greatest-outstanding (R t i k)
+      (unless-true (known t i k) (from-to (pos 0) greatest-outstanding (R t i k)) passed (leb-true (Y t) (i + k) l))
+
+  pub weights-allowed : question-7 t ≡ accepted → (i k : ℕ) → 1 ≤ i → 1 ≤ k → i + k ≤ n t → i + k ≤ Y t → w t i k ≡ pos 0
+  unfolding question-7 weight-allowed unweighted
+  weights-allowed e i k p q h l =
+      let passed : weight-allowed t i k ≡ true = each-cell-passed (n t - 1) 7 (weight-allowed t) e i k p q (omega arith) in
+      is-zero-true (w t i k) (unless-true (unweighted t i k) (is-zero (w t i k)) passed (leb-true (i + k) (Y t) l))
+
+  pub exposures-positive : question-8 t ≡ accepted → (k : ℕ) → 1 ≤ k → k < n t → pos 0 <ℤ sums t k .D
+  unfolding question-8 exposure-positive
+  exposures-positive e k p q =
+      let asked : ask (exposure-positive t k) 8 (at 0 k) ≡ accepted =
+      first-accepted (n t - 1) (λ k. ask (exposure-positive t k) 8 (at 0 k)) e k p (omega arith) in
+      ltZ-yes (is-true (ask-accepted (exposure-positive t k) 8 (at 0 k) asked))
+
+  pub figures-allowed : question-9 t ≡ accepted → (i k : ℕ) → Projected (n t) i k → FiguresInRange (movement t i k)
+  unfolding question-9 question-9-of-year
+  figures-allowed e i k p =
+      let j : ℕ = i + k - n t in
+      let s : year-before t i j ≡ k = omega (arith, p .row, p .after) in
+      let year : question-9-of-year t i ≡ accepted = first-accepted (n t) (question-9-of-year t) e i (omega (arith, p .after, p .year)) (p .row) in
+      let m : Movement = movement t i (year-before t i j) in
+      let asked : ask (figures-in-range m) 9 (at i (suc (year-before t i j))) ≡ accepted =
+      first-accepted (i - 1) (λ j. ask (figures-in-range (movement t i (year-before t i j))) 9 (at i (suc (year-before t i j))))
+      year j (omega (arith, p .after)) (omega (arith, p .after, p .year)) in
+      subst (λ (x : ℕ). FiguresInRange (movement t i x)) s
+      (figures-in-range-true m (ask-accepted (figures-in-range m) 9 (at i (suc (year-before t i j))) asked))
+
+-- ---- All questions
+
+-- questions 1 to 7, which speak of what was observed
+pub record Observed (t : Triangle) : Type 0 where
+  pub years : YearsInRange (t .years)
+  pub cut : CutInRange (t .cut) (n t)
+  pub lengths : InputLengths t
+  pub weight : (i k : ℕ) → 1 ≤ i → 1 ≤ k → i + k ≤ n t → (pos 0 ≤ℤ w t i k) × (w t i k ≤ℤ greatest-weight)
+  pub payment : (i k : ℕ) → 1 ≤ i → 1 ≤ k → i + k ≤ n t + 1 → AmountRight t (S t) i k
+  pub adjustment : (i k : ℕ) → 1 ≤ i → 1 ≤ k → i + k ≤ n t + 1 → AmountRight t (T t) i k
+  pub outstanding : (i k : ℕ) → 1 ≤ i → 1 ≤ k → i + k ≤ n t + 1 → Y t ≤ i + k → (pos 0 ≤ℤ R t i k) × (R t i k ≤ℤ greatest-outstanding)
+  pub unweighted : (i k : ℕ) → 1 ≤ i → 1 ≤ k → i + k ≤ n t → i + k ≤ Y t → w t i k ≡ pos 0
+
+pub record Accepted (t : Triangle) : Type 0 where
+  pub observed : Observed t
+  pub exposure : (k : ℕ) → 1 ≤ k → k < n t → pos 0 <ℤ sums t k .D
+  pub figures : (i k : ℕ) → Projected (n t) i k → FiguresInRange (movement t i k)
+
+-- where the lists have their lengths if the answer to question 3 says so
+pub accepted-triangle : (t : Triangle) (right : Bool) → (right ≡ true → InputLengths t) → questions t right ≡ accepted → Accepted t
+unfolding questions question-1 question-2 question-3
+accepted-triangle t right lengths e =
+    let (q₁, e₂) = then-accepted _ _ e in
+    let (q₂, e₃) = then-accepted _ _ e₂ in
+    let (q₃, e₄) = then-accepted _ _ e₃ in
+    let (q₄, e₅) = then-accepted _ _ e₄ in
+    let (q₅, e₆) = then-accepted _ _ e₅ in
+    let (q₆, e₇) = then-accepted _ _ e₆ in
+    let (q₇, e₈) = then-accepted _ _ e₇ in
+    let (q₈, q₉) = then-accepted _ _ e₈ in
+    let years : YearsInRange (t .years) = years-in-range-true (t .years) (ask-accepted (years-in-range (t .years)) 1 nowhere q₁) in
+    record {
+      observed = record {
+        years = years;
+        cut = cut-in-range-true t years (ask-accepted (cut-in-range t) 2 nowhere q₂);
+        lengths = lengths (ask-accepted right 3 nowhere q₃);
+        weight = weights-in-range t q₄;
+        payment = payments-right t q₅;
+        adjustment = adjustments-right t q₅;
+        outstanding = outstandings-in-range t q₆;
+        unweighted = weights-allowed t q₇;
+      };
+      exposure = exposures-positive t q₈;
+      figures = figures-allowed t q₉;
+    }

@@ -1,0 +1,92 @@
+-- What document 01 says in other words than the definitions, proved of the definitions.
+use mathlib.Core.Path.{_≡_, refl, ap, ap₂, _∙_}
+use mathlib.Core.List.{[], _∷_}
+use Prim.Native.Nat.{ℕ, zero, suc, _+_, _-_, _≤_}
+use native.Mathlib.Omega.{arith}
+use lib.IntN.{ℤ, pos, negℤ, _+ℤ_, _-ℤ_, _*ℤ_, +ℤ-idr}
+use lib.ListN.{List·getD-eq-default}
+use lib.Signed.{_<ℤ_}
+use Rattle.integers.specs.Fraction.{Fraction, _over_, _⊕_, _⊗_, _≈_}
+use Rattle.integers.proofs.RingSolver.{con, _:+_, _:-_, _:*_, neg, _:=_, ring}
+use Rattle.integers.proofs.Rounding.{GreatestNotAbove, half-up-greatest}
+use Rattle.method.specs.Limits.{one-unit}
+use Rattle.method.specs.Counting.{up-to}
+use Rattle.method.specs.Triangle.{Triangle, n, Y, entry}
+use Rattle.method.specs.Outstandings.{Sums, R}
+use Rattle.method.specs.ProjectedYear.{share, closing, paid-reserve, incurred-reserve, reserves-row}
+use Rattle.method.specs.Unrounded.{unrounded-payment, unrounded-adjustment, unrounded-next, unrounded-paid, unrounded-incurred, paid-allowance, incurred-allowance}
+use Rattle.method.proofs.QuestionFacts.{Observed}
+use Rattle.method.proofs.Projection.{O-observed}
+
+-- ---- "The greatest whole number not above the exact share plus one half, also for negative shares"
+
+-- the exact share plus one half is (2 R part + D) / (2 D)
+pub share-greatest : (r part d : ℤ) → pos 0 <ℤ d → GreatestNotAbove (pos 2 *ℤ (r *ℤ part) +ℤ d) (pos 2 *ℤ d) (share r part d)
+unfolding share
+share-greatest r part d h = half-up-greatest (r *ℤ part) d h
+
+-- ---- "A row i with i at least Y starts from R(i, 0) = 0. An older row starts from its opening outstanding."
+
+module _ (t : Triangle) (ok : Observed t) where
+  pub later-row-starts-from-0 : (i : ℕ) → Y t ≤ i → R t i 0 ≡ pos 0
+  unfolding R entry
+  later-row-starts-from-0 zero h = refl
+  later-row-starts-from-0 (suc r) h = List·getD-eq-default (t .openings) (pos 0) (omega (arith, ok .lengths .openings))
+
+  -- up to year Y − i, at which the opening stands
+  pub R-is-opening : (i k : ℕ) → 1 ≤ i → i + k ≤ Y t → R t i k ≡ entry (t .openings) i
+  unfolding R
+  R-is-opening i zero p h = refl
+  R-is-opening i (suc k) p h =
+      ap₂ (λ s u. R t i k -ℤ s +ℤ u)
+      (ok .payment i (suc k) p (omega arith) (omega (arith, ok .cut .most)) .zero-where-missing h)
+      (ok .adjustment i (suc k) p (omega arith) (omega (arith, ok .cut .most)) .zero-where-missing h)
+      ∙ ring 1 (λ x. x :- con (pos 0) :+ con (pos 0) := x) tt (R t i k)
+      ∙ R-is-opening i k p (omega arith)
+
+-- ---- "Accident year 1 has nothing projected: its paid reserve is 0, its incurred reserve and closing both R(1, n) × 1,000,000"
+
+module _ (t : Triangle) where
+  pub first-year-reserves : reserves-row t 1 ≡ pos 0 ∷ (R t 1 (n t) *ℤ one-unit) ∷ (R t 1 (n t) *ℤ one-unit) ∷ []
+  unfolding reserves-row paid-reserve incurred-reserve closing up-to
+  first-year-reserves =
+      ap₂ (λ (a b : ℤ). pos 0 ∷ a ∷ b ∷ [])
+      (+ℤ-idr (R t 1 (n t + 1 - 1) *ℤ one-unit) ∙ ap (λ (k : ℕ). R t 1 k *ℤ one-unit) last)
+      (O-observed t 1 (n t) (omega arith))
+    where
+      last : n t + 1 - 1 ≡ n t
+      last = omega arith
+
+  -- "accident year 1 has the same reserves in both", and its allowances are 0
+  pub first-year-unrounded : (unrounded-paid t 1 ≡ pos 0 over pos 1) × (unrounded-incurred t 1 ≈ (R t 1 (n t) *ℤ one-unit) over pos 1)
+  unfolding unrounded-paid unrounded-incurred up-to _⊕_
+  first-year-unrounded = (refl, record { across = ap (λ (k : ℕ). (x k *ℤ pos 1 +ℤ pos 0) *ℤ pos 1) last ∙ one (x (n t)) })
+    where
+      x : ℕ → ℤ
+      x k = R t 1 k *ℤ one-unit
+
+      last : n t + 1 - 1 ≡ n t
+      last = omega arith
+
+      one : (z : ℤ) → (z *ℤ pos 1 +ℤ pos 0) *ℤ pos 1 ≡ z *ℤ (pos 1 *ℤ pos 1)
+      one z = ring 1 (λ z. (z :* con (pos 1) :+ con (pos 0)) :* con (pos 1) := z :* (con (pos 1) :* con (pos 1))) tt z
+
+  pub first-year-allowances : (paid-allowance t 1 ≡ pos 0 over pos 1) × (incurred-allowance t 1 ≡ pos 0 over pos 1)
+  unfolding paid-allowance incurred-allowance up-to
+  first-year-allowances = (refl, refl)
+
+-- ---- "The new U is U less that payment plus that adjustment"
+
+-- a fraction's negative
+abbrev pub negative : Fraction → Fraction
+negative f = negℤ (f .numerator) over f .denominator
+
+pub unrounded-next-is : (u : Fraction) (s : Sums) → u ⊕ negative (unrounded-payment u s) ⊕ unrounded-adjustment u s ≈ unrounded-next u s
+unfolding unrounded-next unrounded-payment unrounded-adjustment _⊕_ _⊗_
+unrounded-next-is u s = record {
+  across = ring 5
+      (λ m d P Q D.
+      ((m :* (d :* D) :+ neg (m :* P) :* d) :* (d :* D) :+ m :* Q :* (d :* (d :* D))) :* (d :* D)
+      := (m :* D :- m :* P :+ m :* Q) :* (d :* (d :* D) :* (d :* D)))
+      tt (u .numerator) (u .denominator) (s .P) (s .Q) (s .D);
+}

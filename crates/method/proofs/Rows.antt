@@ -1,0 +1,103 @@
+-- A row handed back is as long as its accident year has seen cells, and holds their figures in order.
+use mathlib.Core.Path.{_≡_, sym, ap, _∙_}
+use mathlib.Core.List.{List}
+use Prim.Native.Nat.{ℕ, suc, _+_, _-_, _≤_, _<_}
+use native.Mathlib.Omega.{arith}
+use lib.Dec.{eqb}
+use lib.IntN.{ℤ, pos, negsuc, natAbs}
+use lib.ListN.{length, getD, take, drop, length-drop}
+use lib.Seq.{length-take-le, getD-take, getD-drop}
+use lib.Signed.{_≤ℤ_}
+use Rattle.integers.proofs.LinearFacts.{integers}
+use Rattle.method.specs.Triangle.{amounts-length, cells-before, cell}
+use Rattle.method.specs.Questions.{accepted, nowhere, question-10, years-in-range, accident-year-in-range}
+use Rattle.method.specs.Answers.{Amounts, payments, adjustments, both-lengths-right, row-verdict, named-list, row-of, row}
+use Rattle.method.proofs.Tests.{and-true, from-to-true, eqb-true}
+use Rattle.method.proofs.FirstRefusal.{ask-accepted, then-accepted}
+use Rattle.method.proofs.QuestionFacts.{YearsInRange, years-in-range-true}
+use Rattle.method.proofs.Positions.{cell-at, row-inside}
+
+-- ---- Row r + 1 of a list of m rows, of m, m − 1, … cells
+
+module _ (m r : ℕ) (xs : List ℤ) (h : r < m) (long : length xs ≡ amounts-length m) where
+  part-length : length (take (m - r) (drop (cells-before m r) xs)) ≡ m - r
+  part-length = length-take-le (m - r) (drop (cells-before m r) xs) (omega (arith, length-drop (cells-before m r) xs, row-inside m r h))
+
+  part-holds : (j : ℕ) → r + j < m → getD (take (m - r) (drop (cells-before m r) xs)) j (pos 0) ≡ cell m xs (suc r) (suc j)
+  part-holds j l =
+      getD-take (m - r) (drop (cells-before m r) xs) j (pos 0) (omega arith)
+      ∙ getD-drop (cells-before m r) xs j (pos 0)
+      ∙ sym (cell-at m xs r j)
+
+-- ---- The row that the call answers
+
+module _ (years : ℤ) (payment-list adjustment-list : List ℤ) (accident-year : ℤ) where
+  pub record RowAccepted : Type 0 where
+    pub years-right : YearsInRange years
+    pub payments-length : length payment-list ≡ amounts-length (natAbs years)
+    pub adjustments-length : length adjustment-list ≡ amounts-length (natAbs years)
+    pub first : 1 ≤ natAbs accident-year
+    pub last : natAbs accident-year ≤ natAbs years
+
+  pub row-accepted : row-verdict years payment-list adjustment-list accident-year ≡ accepted → RowAccepted
+  unfolding row-verdict both-lengths-right question-10 accident-year-in-range
+  row-accepted e =
+      let (q₁, e₂) = then-accepted _ _ e in
+      let (q₃, q₁₀) = then-accepted _ _ e₂ in
+      let y : YearsInRange years = years-in-range-true years (ask-accepted (years-in-range years) 1 nowhere q₁) in
+      let both = and-true (eqb (length payment-list) (amounts-length (natAbs years))) (eqb (length adjustment-list) (amounts-length (natAbs years)))
+      (ask-accepted (both-lengths-right years payment-list adjustment-list accident-year) 3 nowhere q₃) in
+      let range = from-to-true (pos 1) years accident-year (ask-accepted (accident-year-in-range years accident-year) 10 nowhere q₁₀) in
+      let counts : (1 ≤ natAbs accident-year) × (natAbs accident-year ≤ natAbs years) = count years accident-year (y .counted) (range .0) (range .1) in
+      record {
+        years-right = y;
+        payments-length = eqb-true (length payment-list) (amounts-length (natAbs years)) (both .0);
+        adjustments-length = eqb-true (length adjustment-list) (amounts-length (natAbs years)) (both .1);
+        first = counts .0;
+        last = counts .1;
+      }
+    where
+      count : (n i : ℤ) → n ≡ pos (natAbs n) → pos 1 ≤ℤ i → i ≤ℤ n → (1 ≤ natAbs i) × (natAbs i ≤ natAbs n)
+      count (pos m) (pos a) y p q = omega (arith, integers)
+      count (pos m) (negsuc a) y p q = absurd (p .le)
+      count (negsuc m) i y p q = absurd (omega (arith, integers))
+
+  module _ (e : row-verdict years payment-list adjustment-list accident-year ≡ accepted) (named : Amounts) where
+    xs : List ℤ
+    xs = named-list years payment-list adjustment-list accident-year named
+
+    facts : RowAccepted
+    facts = row-accepted e
+
+    named-length : (which : Amounts) → length (named-list years payment-list adjustment-list accident-year which) ≡ amounts-length (natAbs years)
+    unfolding named-list
+    named-length payments = facts .payments-length
+    named-length adjustments = facts .adjustments-length
+
+    -- the number of the row, counted from 0
+    r : ℕ
+    r = natAbs accident-year - 1
+
+    row-is : row years payment-list adjustment-list accident-year named ≡ take (natAbs years - r) (drop (cells-before (natAbs years) r) xs)
+    unfolding row row-of xs r
+    row-is =
+        let s : natAbs years + 1 - natAbs accident-year ≡ natAbs years - r = omega (arith, facts .first, facts .last) in
+        ap (row-of years payment-list adjustment-list accident-year xs) e ∙ ap (λ (x : ℕ). take x (drop (cells-before (natAbs years) r) xs)) s
+
+    pub row-length : length (row years payment-list adjustment-list accident-year named) ≡ natAbs years + 1 - natAbs accident-year
+    unfolding xs r
+    row-length =
+        let l : r < natAbs years = omega (arith, facts .first, facts .last) in
+        let s : natAbs years - r ≡ natAbs years + 1 - natAbs accident-year = omega (arith, facts .first, facts .last) in
+        ap length row-is ∙ part-length (natAbs years) r xs l (named-length named) ∙ s
+
+    pub row-holds : (k : ℕ) → natAbs accident-year + suc k ≤ natAbs years + 1
+        → getD (row years payment-list adjustment-list accident-year named) k (pos 0)
+        ≡ cell (natAbs years) (named-list years payment-list adjustment-list accident-year named) (natAbs accident-year) (suc k)
+    unfolding xs r
+    row-holds k h =
+        let l : r < natAbs years = omega (arith, facts .first, facts .last) in
+        let s : suc r ≡ natAbs accident-year = omega (arith, facts .first) in
+        ap (λ (ys : List ℤ). getD ys k (pos 0)) row-is
+        ∙ part-holds (natAbs years) r xs l (named-length named) k (omega (arith, facts .first))
+        ∙ ap (λ (x : ℕ). cell (natAbs years) xs x (suc k)) s

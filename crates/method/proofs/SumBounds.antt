@@ -1,0 +1,95 @@
+-- How large the three sums of a development year can be, for any n, where questions 1 to 7 accept.
+use mathlib.Core.Path.{_≡_, sym, ap, _∙_, subst}
+use Prim.Native.Nat.{ℕ, suc, _+_, _*_, _-_, _≤_, _<_}
+use native.Mathlib.Nat.{le-trans, mul-le-mul-right}
+use native.Mathlib.Decide.{decLe}
+use native.Mathlib.Omega.{arith}
+use lib.IntN.{ℤ, pos, _+ℤ_, _-ℤ_, _*ℤ_, natAbs, zero-*ℤ}
+use lib.Signed.{_≤ℤ_, ≤ℤ-refl}
+use Rattle.integers.proofs.LinearFacts.{integers}
+use Rattle.integers.proofs.Order.{*ℤ-nonneg, natAbs-by, natAbs-*ℤ-≤, natAbs-parts}
+use Rattle.integers.proofs.RingSolver.{con}
+use Rattle.method.specs.Limits.{greatest-weight, greatest-amount, greatest-outstanding}
+use Rattle.method.specs.Counting.{sum-to}
+use Rattle.method.specs.Triangle.{Triangle, n, Y, S, T, w}
+use Rattle.method.specs.Outstandings.{Sums, R, sums}
+use Rattle.method.proofs.QuestionFacts.{Observed}
+use Rattle.method.proofs.Sums.{sum-nonneg, sum-natAbs, sums-combined}
+
+-- the largest weighted amount or outstanding: a weight of 100 times 1,000,000,000
+abbrev pub greatest-term : ℕ
+greatest-term = natAbs (greatest-weight *ℤ greatest-amount)
+
+-- and the sum of 31 of them, one for each accident year but the youngest
+abbrev pub greatest-sum : ℕ
+greatest-sum = 31 * greatest-term
+
+-- the sums of a year as the projection takes them
+pub record SumsInRange (s : Sums) : Type 0 where
+  pub P-size : natAbs (s .P) ≤ greatest-sum
+  pub Q-size : natAbs (s .Q) ≤ greatest-sum
+  pub D-nonneg : pos 0 ≤ℤ s .D
+  pub D-most : s .D ≤ℤ pos greatest-sum
+  pub factor-nonneg : pos 0 ≤ℤ (s .D -ℤ s .P +ℤ s .Q)
+
+-- The numerator of the outstanding factor is the weighted sum of the next outstandings.
+pub factor-is : (t : Triangle) (k : ℕ) → sums t k .D -ℤ sums t k .P +ℤ sums t k .Q ≡ sum-to (n t - k) (λ i. w t i k *ℤ R t i (suc k))
+unfolding sums R
+factor-is t k = sums-combined (λ i. w t i k) (λ i. R t i k) (λ i. S t i (suc k)) (λ i. T t i (suc k)) (n t - k)
+
+module _ (t : Triangle) (ok : Observed t) where
+  weight-size : (i k : ℕ) → 1 ≤ i → 1 ≤ k → i + k ≤ n t → natAbs (w t i k) ≤ natAbs greatest-weight
+  weight-size i k p q h = natAbs-by (con (w t i k)) (natAbs greatest-weight) (omega (arith, integers, ok .weight i k p q h))
+
+  weighted-amount : (i k : ℕ) (x : ℤ) → 1 ≤ i → 1 ≤ k → i + k ≤ n t → natAbs x ≤ natAbs greatest-amount → natAbs (w t i k *ℤ x) ≤ greatest-term
+  weighted-amount i k x p q h l = natAbs-*ℤ-≤ (w t i k) x (natAbs greatest-weight) (natAbs greatest-amount) (weight-size i k p q h) l
+
+  -- the outstanding of year k or k + 1, with the weight of year k: it is known, or it has no weight
+  weighted-outstanding : (i k l : ℕ) → 1 ≤ i → 1 ≤ k → i + k ≤ n t → k ≤ l → i + l ≤ n t + 1
+      → (pos 0 ≤ℤ (w t i k *ℤ R t i l)) × (natAbs (w t i k *ℤ R t i l) ≤ greatest-term)
+  weighted-outstanding i k l p q h m u = go (decLe (Y t) (i + k))
+    where
+      go : Dec (Y t ≤ i + k) → (pos 0 ≤ℤ (w t i k *ℤ R t i l)) × (natAbs (w t i k *ℤ R t i l) ≤ greatest-term)
+      go (yes y) =
+          let r : (pos 0 ≤ℤ R t i l) × (R t i l ≤ℤ greatest-outstanding) = ok .outstanding i l p (omega arith) u (omega arith) in (
+            *ℤ-nonneg (w t i k) (R t i l) (ok .weight i k p q h .0) (r .0),
+            weighted-amount i k (R t i l) p q h (natAbs-by (con (R t i l)) (natAbs greatest-amount) (omega (arith, integers, r))),
+          )
+      go (no y) =
+          let z : w t i k *ℤ R t i l ≡ pos 0 = ap (λ x. x *ℤ R t i l) (ok .unweighted i k p q h (omega arith)) ∙ zero-*ℤ (R t i l) in
+          (subst (λ (x : ℤ). pos 0 ≤ℤ x) (sym z) (≤ℤ-refl (pos 0)), subst (λ (x : ℤ). natAbs x ≤ greatest-term) (sym z) (omega arith))
+
+  few-terms : (k : ℕ) (f : ℕ → ℤ) → 1 ≤ k → ((i : ℕ) → 1 ≤ i → i ≤ n t - k → natAbs (f i) ≤ greatest-term) → natAbs (sum-to (n t - k) f) ≤ greatest-sum
+  few-terms k f q h =
+      let few : n t - k ≤ 31 = omega (arith, ok .years .most) in
+      le-trans (sum-natAbs (n t - k) greatest-term f h) (mul-le-mul-right greatest-term few)
+
+  module _ (k : ℕ) (q : 1 ≤ k) (l : k < n t) where
+    payments-size : natAbs (sum-to (n t - k) (λ i. w t i k *ℤ S t i (suc k))) ≤ greatest-sum
+    payments-size = few-terms k (λ i. w t i k *ℤ S t i (suc k)) q
+        (λ i a b. weighted-amount i k (S t i (suc k)) a q (omega arith) (ok .payment i (suc k) a (omega arith) (omega arith) .in-range))
+
+    adjustments-size : natAbs (sum-to (n t - k) (λ i. w t i k *ℤ T t i (suc k))) ≤ greatest-sum
+    adjustments-size = few-terms k (λ i. w t i k *ℤ T t i (suc k)) q
+        (λ i a b. weighted-amount i k (T t i (suc k)) a q (omega arith) (ok .adjustment i (suc k) a (omega arith) (omega arith) .in-range))
+
+    -- the outstandings of year k, or of year k + 1
+    outstandings-nonneg : (m : ℕ) → k ≤ m → m ≤ suc k → pos 0 ≤ℤ sum-to (n t - k) (λ i. w t i k *ℤ R t i m)
+    outstandings-nonneg m a b = sum-nonneg (n t - k) (λ i. w t i k *ℤ R t i m)
+        (λ i c d. weighted-outstanding i k m c q (omega arith) a (omega arith) .0)
+
+    exposure-size : natAbs (sum-to (n t - k) (λ i. w t i k *ℤ R t i k)) ≤ greatest-sum
+    exposure-size = few-terms k (λ i. w t i k *ℤ R t i k) q (λ i a b. weighted-outstanding i k k a q (omega arith) (omega arith) (omega arith) .1)
+
+    pub sums-in-range : SumsInRange (sums t k)
+    unfolding sums
+    sums-in-range = record {
+      P-size = payments-size;
+      Q-size = adjustments-size;
+      D-nonneg = outstandings-nonneg k (omega arith) (omega arith);
+      D-most = at-most (sum-to (n t - k) (λ i. w t i k *ℤ R t i k)) exposure-size;
+      factor-nonneg = subst (λ (x : ℤ). pos 0 ≤ℤ x) (sym (factor-is t k)) (outstandings-nonneg (suc k) (omega arith) (omega arith));
+    }
+      where
+        at-most : (x : ℤ) → natAbs x ≤ greatest-sum → x ≤ℤ pos greatest-sum
+        at-most x h = omega (arith, integers, natAbs-parts x)

@@ -1,0 +1,50 @@
+-- The whole answer of the call that fills both lists, accepted and refused. Either way each list is filled to its actual length.
+use mathlib.Core.Path.{_≡_, refl, sym, ap, _∙_}
+use Prim.Native.Nat.{ℕ}
+use lib.IntN.{pos}
+use lib.ListN.{length, replicate, length-replicate}
+use Rattle.method.specs.Triangle.{Triangle}
+use Rattle.method.specs.ProjectedYear.{future, reserves}
+use Rattle.method.specs.Questions.{Place, Verdict, accepted, refused, nowhere, question-3, questions, lengths-right}
+use Rattle.method.specs.Answers.{filled, answer}
+use Rattle.method.proofs.FirstRefusal.{ask-accepted, then-accepted}
+use Rattle.method.proofs.QuestionFacts.{AllLengths, lengths-right-true}
+use Rattle.method.proofs.Lists.{future-has-length, reserves-has-length}
+
+pub filled-verdict : (t : Triangle) (future-length reserves-length : ℕ) (v : Verdict) → filled t future-length reserves-length v .verdict ≡ v
+unfolding filled
+filled-verdict t f r accepted = refl
+filled-verdict t f r (refused question p) = refl
+
+module _ (t : Triangle) (f r : ℕ) where
+  pub questions-accepted : answer t f r .verdict ≡ accepted → questions t (lengths-right t f r) ≡ accepted
+  unfolding answer
+  questions-accepted e = sym (filled-verdict t f r (questions t (lengths-right t f r))) ∙ e
+
+  pub accepted-answer : answer t f r .verdict ≡ accepted → answer t f r ≡ record { verdict = accepted; future = future t; reserves = reserves t }
+  unfolding answer filled
+  accepted-answer e = ap (filled t f r) (questions-accepted e)
+
+  pub refused-answer : (question : ℕ) (p : Place) → questions t (lengths-right t f r) ≡ refused question p
+      → answer t f r ≡ record { verdict = refused question p; future = replicate f (pos 0); reserves = replicate r (pos 0) }
+  unfolding answer filled
+  refused-answer question p e = ap (filled t f r) e
+
+  lengths-of-accepted : questions t (lengths-right t f r) ≡ accepted → AllLengths t f r
+  unfolding questions question-3
+  lengths-of-accepted e =
+      let (q₁, e₂) = then-accepted _ _ e in
+      let (q₂, e₃) = then-accepted _ _ e₂ in
+      let (q₃, e₄) = then-accepted _ _ e₃ in
+      lengths-right-true t f r (ask-accepted (lengths-right t f r) 3 nowhere q₃)
+
+  filled-lengths : (v : Verdict) → questions t (lengths-right t f r) ≡ v → (length (filled t f r v .future) ≡ f) × (length (filled t f r v .reserves) ≡ r)
+  unfolding filled
+  filled-lengths accepted e =
+      let l : AllLengths t f r = lengths-of-accepted e in
+      (future-has-length t ∙ sym (l .future), reserves-has-length t ∙ sym (l .reserves))
+  filled-lengths (refused question p) e = (length-replicate f (pos 0), length-replicate r (pos 0))
+
+  pub answer-fills : (length (answer t f r .future) ≡ f) × (length (answer t f r .reserves) ≡ r)
+  unfolding answer
+  answer-fills = filled-lengths (questions t (lengths-right t f r)) refl

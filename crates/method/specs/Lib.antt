@@ -1,0 +1,11 @@
+-- The meaning of document 01, in its order. Read from the top; no file below holds a proof.
+pub mod Limits
+pub mod Counting
+pub mod Triangle
+pub mod Outstandings
+pub mod ProjectedYear
+pub mod Unrounded
+pub mod Questions
+pub mod Answers
+pub mod Claim
+pub mod Examples

@@ -1,0 +1,61 @@
+#!/usr/bin/env python3
+"""Prints the number, the place and both answer lists of each example in crates/method/specs/Examples.antt.
+
+This is where the figures that document 01 does not print come from. Nothing in the gate runs it.
+"""
+from document_01 import figures
+
+
+def example(name, n, payments, adjustments, weights=None, y=1, openings=(), future=None, reserves=None):
+    future = 3 * n * (n - 1) // 2 if future is None else future
+    reserves = 3 * n if reserves is None else reserves
+    weights = [1] * (n * (n - 1) // 2) if weights is None else weights
+    number, place, lists = figures(n, y, payments, adjustments, weights, list(openings), future, reserves)
+    print(f"{name}: {number} at {place}")
+    if lists:
+        print("  future  ", *lists[0])
+        print("  reserves", *lists[1])
+
+
+def changed(values, at, value):
+    return values[:at] + [value] + values[at + 1:]
+
+
+S1, T1 = [100, 60, 50], [200, -40, 130]
+S4, T4 = [100, 60, 40, 80, 90, 50], [300, -40, -60, 380, 30, 250]
+S7, T7 = changed(S4, 0, 0), changed(T4, 0, 0)
+ZEROS = [0] * 10
+W4 = [0, 0, 1, 0, 1, 1]
+S14 = [0, 0, 10, 5, 0, 20, 8, 30, 12, 40]
+T14 = [0, 0, 4, -1, 0, 25, -3, 90, -10, 95]
+
+example("E1", 2, S1, T1)
+example("E2", 2, [0, 129, 0], [128, 1, 1])
+example("E3", 2, [0, 127, 0], [128, -1, 1])
+example("E4", 3, S4, T4)
+example("E5", 3, S4, changed(T4, 2, -50))
+example("E6", 3, S4, T4, [0, 1, 1])
+example("E7", 3, S7, T7, [0, 1, 1], 2, [200])
+example("E8", 3, S4, T4, [0, 1, 0])
+example("E9", 2, S1, changed(T1, 0, 99))
+example("E10", 2, [0, 0, 0], [1, 999_999_999, 10])
+example("E11", 2, [0, 0, 0], [1, 999_999_999, 11])
+example("E12", 3, S7, T7, [1, 1, 1], 2, [200])
+
+example("X13: question 6 before question 7", 3, S7, T7, [1, 1, 1], 2, [-1])
+example("X14: a cut of 3 with openings", 4, S14, T14, W4, 3, [50, 60])
+example("X15: payments before adjustments", 3, changed(S4, 5, 1_000_000_001), changed(T4, 0, -1_000_000_001))
+example("X16: missing before range, in list order", 4, changed(changed(ZEROS, 1, 7), 2, 1_000_000_001), ZEROS, W4, 3, [50, 60])
+example("X17: range before missing, in list order", 4, changed(changed(ZEROS, 2, 1_000_000_001), 4, 7), ZEROS, W4, 3, [50, 60])
+example("X18: row by row, not openings first", 4, changed(ZEROS, 2, 51), ZEROS, W4, 3, [50, -60])
+example("X19: an opening, at its place", 4, ZEROS, ZEROS, W4, 3, [50, -60])
+example("X20: the payment alone too large", 2, [0, 909_090_910, 0], [1, 909_090_909, 11])
+example("X21: the adjustment alone too large", 2, [0, 909_090_909, 0], [1, 909_090_910, 11])
+example("X22: the outstanding alone too large", 2, [0, 0, 0], [1, 909_090_909, 11])
+example("X23: a late row", 3, [0, 0, 0, 0, 0, 0], [1, 0, 0, 1, 999_999_999, 21])
+example("X24: years out of range with wrong lists", 33, [], [], [], 0, [], 2, 1)
+example("X25: the least 64-bit number of years", -2**63, [], [], [], -2**63, [], 0, 3)
+example("X26: cut n", 2, S1, T1, None, 2, [5])
+example("X27: the future list one short", 2, S1, T1, None, 1, [], 2, 6)
+example("X28: a weight above 100", 3, S4, T4, [1, 101, 1])
+example("X29: the least 64-bit payment", 2, [100, -2**63, 50], T1)
