@@ -41,18 +41,26 @@ module _ (r : ℤ) (s : Sums) (u a : Fraction) (h : pos 0 <ℤ s .D) (k : Within
   pub outstanding-within : pos 0 ≤ℤ (s .D -ℤ s .P +ℤ s .Q) → Within (next-year r s .outstanding) (unrounded-next u s) (next-allowance a s)
   unfolding next-year unrounded-next unrounded-payment unrounded-adjustment next-allowance _⊗_
   outstanding-within f =
-      subst (λ (x : ℤ). Within b (x over (u .denominator *ℤ s .D)) (a ⊗ φ over s .D ⊕ pos 1 over pos 1))
-      (ring 4 (λ m D P Q. m :* (D :- P :+ Q) := m :* D :- m :* P :+ m :* Q) tt (u .numerator) (s .D) (s .P) (s .Q))
-      (subst (λ (x : ℤ). Within b (u ⊗ φ over s .D) (a ⊗ x over s .D ⊕ pos 1 over pos 1)) (size-of-nonneg φ f)
-      (share-within r φ (s .D) b u a (pos 1 over pos 1) h k
-      (balance-within r (s .P) (s .Q) (s .D) (share r (s .P) (s .D)) (share r (s .Q) (s .D)) h
-      (share-nearest r (s .P) (s .D) h) (share-nearest r (s .Q) (s .D) h))))
+      subst (λ (x : ℤ). Within b (x over (u .denominator *ℤ s .D)) (a ⊗ φ over s .D ⊕ pos 1 over pos 1)) movements
+      (subst (λ (x : ℤ). Within b (u ⊗ φ over s .D) (a ⊗ x over s .D ⊕ pos 1 over pos 1)) (size-of-nonneg φ f) by-the-factor)
     where
       φ : ℤ
       φ = s .D -ℤ s .P +ℤ s .Q
 
       b : ℤ
       b = r -ℤ share r (s .P) (s .D) +ℤ share r (s .Q) (s .D)
+
+      -- u by the outstanding factor is u less its payment plus its adjustment
+      movements : u .numerator *ℤ φ ≡ u .numerator *ℤ s .D -ℤ u .numerator *ℤ s .P +ℤ u .numerator *ℤ s .Q
+      movements = ring 4 (λ m D P Q. m :* (D :- P :+ Q) := m :* D :- m :* P :+ m :* Q) tt (u .numerator) (s .D) (s .P) (s .Q)
+
+      rounded-twice : Within b ((r *ℤ φ) over s .D) (pos 1 over pos 1)
+      rounded-twice =
+          balance-within r (s .P) (s .Q) (s .D) (share r (s .P) (s .D)) (share r (s .Q) (s .D)) h
+          (share-nearest r (s .P) (s .D) h) (share-nearest r (s .Q) (s .D) h)
+
+      by-the-factor : Within b (u ⊗ φ over s .D) (a ⊗ size φ over s .D ⊕ pos 1 over pos 1)
+      by-the-factor = share-within r φ (s .D) b u a (pos 1 over pos 1) h k rounded-twice
 
 -- ---- All years of a row
 
@@ -81,6 +89,7 @@ module _ (t : Triangle) where
 
 module _ (t : Triangle) (ok : Accepted t) where
   pub O-within : (i k : ℕ) → 1 ≤ i → i ≤ n t → k ≤ n t → Within (O t i k) (U t i k) (A t i k)
+  unfolding movement
   O-within i zero p q l = observed-within t i zero (omega arith)
   O-within i (suc k) p q l = go (O-within i k p q (omega arith)) (decLe (i + suc k) (n t + 1))
     where
@@ -89,9 +98,9 @@ module _ (t : Triangle) (ok : Accepted t) where
       go before (no h) =
           let a : n t < i + k = omega arith in
           let b : 1 ≤ k = omega arith in
+          let f = sums-in-range t (ok .observed) k b l .factor-nonneg in
           within-of t (O-projected t i k a) (U-projected t i k a) (A-projected t i k a)
-          (unfold movement in outstanding-within (O t i k) (sums t k) (U t i k) (A t i k) (ok .exposure k b l) before
-          (sums-in-range t (ok .observed) k b l .factor-nonneg))
+          (outstanding-within (O t i k) (sums t k) (U t i k) (A t i k) (ok .exposure k b l) before f)
 
   module _ (i k : ℕ) (p : Projected (n t) i k) where
     first-row : 1 ≤ i

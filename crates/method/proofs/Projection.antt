@@ -6,6 +6,7 @@ use native.Mathlib.Decide.{decLe}
 use native.Mathlib.Omega.{arith}
 use lib.IntN.{ℤ, pos, _+ℤ_, _-ℤ_, _*ℤ_, +ℤ-idl, *ℤ-zero}
 use lib.Signed.{_≤ℤ_, _<ℤ_, leZ-yes}
+use Rattle.integers.specs.Fraction.{size}
 use Rattle.integers.proofs.RingSolver.{con, _:+_, _:-_, _:*_, _:=_, ring}
 use Rattle.integers.proofs.LinearFacts.{integers, ≤ℤ-by}
 use Rattle.integers.proofs.Order.{*ℤ-nonneg, size-of-nonneg}
@@ -103,6 +104,7 @@ incurred-less-paid-is-closing t i p h =
 module _ (t : Triangle) (ok : Observed t) (exposure : (k : ℕ) → 1 ≤ k → k < n t → pos 0 <ℤ sums t k .D) where
   -- an outstanding from the last observed year on is not negative
   pub O-nonneg : (i k : ℕ) → 1 ≤ i → i ≤ n t → n t < i + k → k ≤ n t → pos 0 ≤ℤ O t i k
+  unfolding movement
   O-nonneg i zero p q h l = absurd (none q h)
     where
       none : i ≤ n t → n t < i + 0 → ⊥
@@ -112,15 +114,18 @@ module _ (t : Triangle) (ok : Observed t) (exposure : (k : ℕ) → 1 ≤ k → 
       scaled : (x : ℤ) → pos 0 ≤ℤ x → pos 0 ≤ℤ (x *ℤ one-unit)
       scaled x h = *ℤ-nonneg x one-unit h (leZ-yes tt)
 
+      movement-nonneg : (k : ℕ) → pos 0 <ℤ sums t k .D → pos 0 ≤ℤ O t i k → pos 0 ≤ℤ (sums t k .D -ℤ sums t k .P +ℤ sums t k .Q)
+          → pos 0 ≤ℤ movement t i k .outstanding
+      movement-nonneg k = next-nonneg (O t i k) (sums t k)
+
       go : (n t < i + k → pos 0 ≤ℤ O t i k) → Dec (i + suc k ≤ n t + 1) → pos 0 ≤ℤ O t i (suc k)
       go before (yes s) =
-          subst (λ (x : ℤ). pos 0 ≤ℤ x) (sym (O-observed t i (suc k) s))
+          rw (O-observed t i (suc k) s)
           (scaled (R t i (suc k)) (ok .outstanding i (suc k) p (omega arith) s (omega (arith, ok .cut .most)) .0))
       go before (no s) =
           let a : n t < i + k = omega arith in
           let b : 1 ≤ k = omega arith in
-          subst (λ (x : ℤ). pos 0 ≤ℤ x) (sym (O-projected t i k a))
-          (unfold movement in next-nonneg (O t i k) (sums t k) (exposure k b l) (before a) (sums-in-range t ok k b l .factor-nonneg))
+          rw (O-projected t i k a) (movement-nonneg k (exposure k b l) (before a) (sums-in-range t ok k b l .factor-nonneg))
 
   -- where the oldest year's last outstanding is 0, so is the last outstanding factor
   last-factor-zero : (k : ℕ) → n t ≡ suc k → R t 1 (n t) ≡ pos 0 → sums t k .D -ℤ sums t k .P +ℤ sums t k .Q ≡ pos 0
@@ -167,13 +172,15 @@ module _ (t : Triangle) (ok : Accepted t) where
       scaled : (x : ℤ) → x ≤ℤ greatest-outstanding → (x *ℤ one-unit) ≤ℤ greatest-figure
       scaled x h = ≤ℤ-by (con x :* con one-unit) (con greatest-figure) (omega (arith, integers))
 
+      within : (x : ℤ) → pos 0 ≤ℤ x → size x ≤ℤ greatest-figure → x ≤ℤ greatest-figure
+      within x a b = subst (λ (z : ℤ). z ≤ℤ greatest-figure) (size-of-nonneg x a) b
+
       go : Dec (i + suc k ≤ n t + 1) → O t i (suc k) ≤ℤ greatest-figure
       go (yes s) =
-          subst (λ (x : ℤ). x ≤ℤ greatest-figure) (sym (O-observed t i (suc k) s))
+          rw (O-observed t i (suc k) s)
           (scaled (R t i (suc k)) (ok .observed .outstanding i (suc k) p (omega arith) s (omega (arith, ok .observed .cut .most)) .1))
       go (no s) =
           let a : n t < i + k = omega arith in
           let e : O t i (suc k) ≡ movement t i k .outstanding = O-projected t i k a in
-          let f = ok .figures i k (record { row = q; after = a; year = l }) in
-          subst (λ (x : ℤ). x ≤ℤ greatest-figure) (sym e)
-          (subst (λ (x : ℤ). x ≤ℤ greatest-figure) (size-of-nonneg (movement t i k .outstanding) (subst (λ (x : ℤ). pos 0 ≤ℤ x) e nonneg)) (f .outstanding))
+          let small : size (movement t i k .outstanding) ≤ℤ greatest-figure = ok .figures i k (record { row = q; after = a; year = l }) .outstanding in
+          within (O t i (suc k)) nonneg (subst (λ (x : ℤ). size x ≤ℤ greatest-figure) (sym e) small)

@@ -11,7 +11,7 @@ use Rattle.integers.specs.Fraction.{size}
 use Rattle.integers.proofs.RingSolver.{con, _:-_}
 use Rattle.integers.proofs.LinearFacts.{integers, parts}
 use Rattle.integers.proofs.Order.{natAbs-≤}
-use Rattle.method.specs.Limits.{greatest-weight, greatest-amount, greatest-outstanding, greatest-figure}
+use Rattle.method.specs.Limits.{fewest-years, most-years, greatest-weight, greatest-amount, greatest-outstanding, greatest-figure}
 use Rattle.method.specs.Triangle.{Triangle, n, Y, S, T, w, missing, amounts-length, weights-length, openings-length, future-length, reserves-length}
 use Rattle.method.specs.Outstandings.{R, sums}
 use Rattle.method.specs.ProjectedYear.{Movement, movement, year-before}
@@ -24,15 +24,15 @@ use Rattle.method.proofs.FirstRefusal.{ask-accepted, then-accepted, fir
 
 pub record YearsInRange (years : ℤ) : Type 0 where
   pub counted : years ≡ pos (natAbs years)
-  pub fewest : 2 ≤ natAbs years
-  pub most : natAbs years ≤ 32
+  pub fewest : natAbs fewest-years ≤ natAbs years
+  pub most : natAbs years ≤ natAbs most-years
 
 pub years-in-range-true : (years : ℤ) → years-in-range years ≡ true → YearsInRange years
 unfolding years-in-range
-years-in-range-true years e = go years (from-to-true (pos 2) (pos 32) years e)
+years-in-range-true years e = go years (from-to-true fewest-years most-years years e)
   where
-    go : (years : ℤ) → (pos 2 ≤ℤ years) × (years ≤ℤ pos 32) → YearsInRange years
-    go (pos m) h = record { counted = refl; fewest = leb→le 2 m (h .0 .le); most = leb→le m 32 (h .1 .le) }
+    go : (years : ℤ) → (fewest-years ≤ℤ years) × (years ≤ℤ most-years) → YearsInRange years
+    go (pos m) h = record { counted = refl; fewest = leb→le (natAbs fewest-years) m (h .0 .le); most = leb→le m (natAbs most-years) (h .1 .le) }
     go (negsuc m) h = absurd (h .0 .le)
 
 pub record CutInRange (cut : ℤ) (years : ℕ) : Type 0 where
