@@ -1,9 +1,10 @@
 #!/usr/bin/env python3
-"""Prints the number, the place and both answer lists of each example in crates/method/specs/Examples.antt.
+"""Prints the number, the place, both answer lists and the reserve list's allowances of each example in
+crates/method/specs/Examples.antt.
 
 This is where the figures that document 01 does not print come from. Nothing in the gate runs it.
 """
-from document_01 import figures
+from document_01 import figures, unrounded
 
 
 def example(name, n, payments, adjustments, weights=None, y=1, openings=(), future=None, reserves=None):
@@ -15,6 +16,7 @@ def example(name, n, payments, adjustments, weights=None, y=1, openings=(), futu
     if lists:
         print("  future  ", *lists[0])
         print("  reserves", *lists[1])
+        print("  allowed ", *unrounded(n, y, payments, adjustments, weights, list(openings))[1][1])
 
 
 def changed(values, at, value):
@@ -48,7 +50,7 @@ example("X15: payments before adjustments", 3, changed(S4, 5, 1_000_000_001), ch
 example("X16: missing before range, in list order", 4, changed(changed(ZEROS, 1, 7), 2, 1_000_000_001), ZEROS, W4, 3, [50, 60])
 example("X17: range before missing, in list order", 4, changed(changed(ZEROS, 2, 1_000_000_001), 4, 7), ZEROS, W4, 3, [50, 60])
 example("X18: row by row, not openings first", 4, changed(ZEROS, 2, 51), ZEROS, W4, 3, [50, -60])
-example("X19: an opening, at its place", 4, ZEROS, ZEROS, W4, 3, [50, -60])
+example("X19: an opening, at its place", 4, ZEROS, ZEROS, W4, 3, [-50, 60])
 example("X20: the payment alone too large", 2, [0, 909_090_910, 0], [1, 909_090_909, 11])
 example("X21: the adjustment alone too large", 2, [0, 909_090_909, 0], [1, 909_090_910, 11])
 example("X22: the outstanding alone too large", 2, [0, 0, 0], [1, 909_090_909, 11])
@@ -59,3 +61,26 @@ example("X26: cut n", 2, S1, T1, None, 2, [5])
 example("X27: the future list one short", 2, S1, T1, None, 1, [], 2, 6)
 example("X28: a weight above 100", 3, S4, T4, [1, 101, 1])
 example("X29: the least 64-bit payment", 2, [100, -2**63, 50], T1)
+example("X30: one year", 1, [5], [5])
+example("X31: the most years, cut 0", 32, [], [], [], 0, [], 0, 0)
+example("X32: a weight below 0", 3, S4, T4, [1, 1, -1])
+example("X33: both ends of an amount", 2, [-10**9, 0, 10**9], [0, -10**9, 10**9], [100])
+example("X34: a payment one below the least", 2, changed(S1, 0, -10**9 - 1), T1)
+example("X35: an outstanding one above the greatest", 2, [-1, 0, 0], [10**9, 0, 0])
+example("X36: an opening one above the greatest", 4, ZEROS, ZEROS, W4, 3, [10**9, 10**9 + 1])
+example("X37: a payment one millionth above the limit", 2, [0, 98_428_513, 0], [1_000_000, 97_428_513, 101_596_577])
+example("X38: question 4 before question 5", 2, changed(S1, 0, 10**9 + 1), T1, [101])
+example("X39: question 7 before question 8", 3, S7, T7, [1, 0, 1], 2, [200])
+example("X40: no exposure in the last year", 3, S4, T4, [1, 0, 1])
+example("X41: a weight too few", 3, S4, T4, [1, 1])
+example("X42: an opening too many", 3, S4, T4, [1, 1, 1], 1, [0])
+example("X43: the reserve list one too long", 2, S1, T1, None, 1, [], 3, 7)
+example("X44: question 3 before question 4", 3, S4, T4, [101, 1])
+example("X45: question 8 before question 9", 3, [0, 0, 0, 0, 0, 0], [1, 0, 0, 1, 999_999_999, 21], [1, 0, 1])
+example("X46: question 9 row by row", 3, [0] * 6, [1, 0, 999_999_999, 1, 30, 10**9])
+example("X47: both shares at the limit", 2, [0, 10**9, 0], [1, 10**9, 10])
+example("X48: both shares at the limit, negative", 2, [0, -10**9, 0], [1, -10**9, 10])
+example("X49: a negative payment too large", 2, [0, -909_090_910, 0], [1, -909_090_909, 11])
+example("X50: a negative adjustment too large", 2, [0, -909_090_909, 0], [1, -909_090_910, 11])
+example("X51: negative years", -3, S4, T4, [1, 1, 1], 1, [], 9, 9)
+example("X52: a negative cut", 2, S1, T1, None, -1)

@@ -3,7 +3,7 @@
 
 Makes COUNT calls (100), works each by document_01.py, writes them as a table of examples into a copy of the
 crates, and has the checker compute the definitions on the table. It succeeds only where every number, place and
-list agrees. Nothing in the gate runs it, since it wants Python.
+list agrees, and every accepted figure keeps its allowance. Nothing in the gate runs it, since it wants Python.
 """
 import random
 import shutil
@@ -13,7 +13,7 @@ import tempfile
 from collections import Counter
 from pathlib import Path
 
-from document_01 import figures
+from document_01 import figures, keeps_allowances, unrounded
 
 TOP = Path(__file__).resolve().parent.parent
 LEAST, MOST = -2**63, 2**63 - 1
@@ -75,7 +75,7 @@ def damaged(rng, call):
 
 
 def whole(x):
-    return f"pos {x}" if x >= 0 else f"neg {-x}"
+    return f"pos {x}" if x >= 0 else f"minus {-x}"
 
 
 def listed(values):
@@ -84,13 +84,12 @@ def listed(values):
 
 def row(name, call, number, place, lists):
     n, cut, payments, adjustments, weights, openings, future, reserves = call
-    verdict = f"refused {number} (at {place[0]} {place[1]})" if number else "accepted"
     answer = lists or ([0] * future, [0] * reserves)
     return (
         f"abbrev pub {name} : Example\n{name} = record {{ triangle = triangle ({whole(n)}) {listed(payments)}"
-        f" {listed(adjustments)} {listed(weights)} ({whole(cut)}) {listed(openings)}; future-length = {future};"
-        f" reserves-length = {reserves}; wanted = record {{ verdict = {verdict};"
-        f" future = {listed(answer[0])}; reserves = {listed(answer[1])} }} }}\n"
+        f" {listed(adjustments)} {listed(weights)} ({whole(cut)}) {listed(openings)}; future-room = {future};"
+        f" reserves-room = {reserves}; wanted = record {{ number = {number}; accident-year = {whole(place[0])};"
+        f" development-year = {whole(place[1])}; future = {listed(answer[0])}; reserves = {listed(answer[1])} }} }}\n"
     )
 
 
@@ -104,6 +103,8 @@ def main():
         if rng.random() < 0.5:
             call = damaged(rng, call)
         number, place, lists = figures(*call)
+        if number == 0 and not keeps_allowances(lists, *unrounded(*call[:6])):
+            sys.exit(f"a figure does not keep its allowance: {call}")
         numbers[number] += 1
         rows.append(row(name, call, number, place, lists))
     with tempfile.TemporaryDirectory() as folder:

@@ -21,6 +21,9 @@ pub ≤ℤ-or-<ℤ : (x y : ℤ) → (x ≤ℤ y) ⊎ (y <ℤ x)
     go (yes h) = inl (omega (arith, integers))
     go (no f) = inr (omega (arith, integers))
 
+pub +ℤ-nonneg : (a b : ℤ) → pos 0 ≤ℤ a → pos 0 ≤ℤ b → pos 0 ≤ℤ (a +ℤ b)
++ℤ-nonneg a b p q = ≤ℤ-by (con (pos 0)) (con a :+ con b) (omega (arith, integers))
+
 -- ---- Products
 
 pub *ℤ-mono : (a : ℤ) {b c : ℤ} → pos 0 ≤ℤ a → b ≤ℤ c → (a *ℤ b) ≤ℤ (a *ℤ c)

@@ -8,7 +8,7 @@ use native.Mathlib.Nat.{div-add-mod', mod-lt}
 use native.Mathlib.Omega.{arith}
 use lib.IntN.{ℤ, pos, negsuc, negℤ, _+ℤ_, _-ℤ_, _*ℤ_}
 use lib.Signed.{_≤ℤ_, _<ℤ_, <ℤ-irrefl}
-use Rattle.integers.specs.HalfUp.{floor, half-up}
+use Rattle.integers.specs.HalfUp.{floor, half-up, GreatestNotAbove}
 use Rattle.integers.proofs.CommutativeRing.{≤ℤ-antisym, <ℤ→≤ℤ}
 use Rattle.integers.proofs.RingSolver.{con, _:+_, _:-_, _:*_, neg, _:=_, ring}
 use Rattle.integers.proofs.LinearFacts.{integers, parts, ≤ℤ-by, <ℤ-by}
@@ -65,11 +65,6 @@ quotient-≤ z d q p h k l = go (≤ℤ-or-<ℤ q p)
 pub floor-unique : (z d q : ℤ) → pos 0 <ℤ d → (q *ℤ d) ≤ℤ z → z <ℤ (q *ℤ d +ℤ d) → q ≡ floor z d
 floor-unique z d q h k l =
     ≤ℤ-antisym (quotient-≤ z d q (floor z d) h k (floor-< z d h)) (quotient-≤ z d (floor z d) q h (floor-≤ z d h) l)
-
--- q is the greatest whole number not above z / d
-pub record GreatestNotAbove (z d q : ℤ) : Type 0 where
-  pub not-above : (q *ℤ d) ≤ℤ z
-  pub greatest : (p : ℤ) → (p *ℤ d) ≤ℤ z → p ≤ℤ q
 
 pub floor-greatest : (z d : ℤ) → pos 0 <ℤ d → GreatestNotAbove z d (floor z d)
 floor-greatest z d h = record { not-above = floor-≤ z d h; greatest = λ p k. quotient-≤ z d p (floor z d) h k (floor-< z d h) }

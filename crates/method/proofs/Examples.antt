@@ -1,33 +1,47 @@
 -- The tables of examples, each by one computation of the definitions.
 use mathlib.Core.Path.{refl}
 use Prim.Native.Nat.{ℕ}
-use Rattle.integers.specs.Fraction.{_⊕_, _⊗_}
+use lib.Signed.{ltZ-yes}
+use Rattle.integers.specs.Fraction.{Fraction, _⊕_, _⊗_}
 use Rattle.integers.specs.HalfUp.{floor, half-up}
 use Rattle.method.specs.Counting.{up-to}
 use Rattle.method.specs.Triangle.{Triangle, cells-before, cell, entry}
 use Rattle.method.specs.Outstandings.{R, sums}
 use Rattle.method.specs.ProjectedYear.{share, next-year, figures, account, O, movement, future-row, future, paid-reserve, incurred-reserve, closing, reserves-row, reserves}
-use Rattle.method.specs.Unrounded.{unrounded-payment, unrounded-adjustment, unrounded-next, payment-allowance, adjustment-allowance, next-allowance, U, A}
-use Rattle.method.specs.Questions.{_then_, ask, first-to, each-in-row, each-cell, years-in-range, figures-in-range, cut-in-range, input-lengths-right, lengths-right, weight-in-range, amount-right, known, outstanding-in-range, unweighted, weight-allowed, exposure-positive, question-1, question-2, question-3, question-4, question-5, question-6, question-7, question-8, question-9-of-year, question-9, questions, cell-unseen, accident-year-in-range, question-10}
+use Rattle.method.specs.Unrounded.{unrounded-payment, unrounded-adjustment, unrounded-next, payment-allowance, adjustment-allowance, next-allowance, U, A, paid-allowance, incurred-allowance}
+use Rattle.method.specs.Questions.{number, place, _then_, ask, first-to, each-in-row, each-cell, years-in-range, figures-in-range, cut-in-range, input-lengths-right, lengths-right, weight-in-range, amount-right, known, outstanding-in-range, unweighted, weight-allowed, exposure-positive, question-1, question-2, question-3, question-4, question-5, question-6, question-7, question-8, question-9-of-year, question-9, questions, cell-unseen, accident-year-in-range, question-10}
 use Rattle.method.specs.Answers.{Answer, filled, answer, cell-verdict, cell-figures, single-cell, both-lengths-right, row-verdict, named-list, row-of, row}
-use Rattle.method.specs.Examples.{E2-uses-its-allowances, Hold, E1-to-E12, X13-to-X29, Cells-hold, cell-examples, Rows-hold, row-examples}
+use Rattle.method.specs.Examples.{E2-uses-its-allowances, E5-allowances, Hold, E1-to-E12, X13-to-X52, Cells-hold, cell-examples, Rows-hold, row-examples}
 
 -- the answer, with every definition on the way open
 computed : Triangle → ℕ → ℕ → Answer
-unfolding floor half-up up-to cells-before cell entry R sums share next-year figures account O movement future-row future paid-reserve incurred-reserve closing reserves-row reserves _then_ ask first-to each-in-row each-cell years-in-range figures-in-range cut-in-range input-lengths-right lengths-right weight-in-range amount-right known outstanding-in-range unweighted weight-allowed exposure-positive question-1 question-2 question-3 question-4 question-5 question-6 question-7 question-8 question-9-of-year question-9 questions filled answer
-computed t future-length reserves-length = answer t future-length reserves-length
+unfolding floor half-up up-to cells-before cell entry R sums share next-year figures account O movement future-row future paid-reserve incurred-reserve closing reserves-row reserves _then_ ask first-to each-in-row each-cell years-in-range figures-in-range cut-in-range input-lengths-right lengths-right weight-in-range amount-right known outstanding-in-range unweighted weight-allowed exposure-positive question-1 question-2 question-3 question-4 question-5 question-6 question-7 question-8 question-9-of-year question-9 questions filled answer number place
+computed t future-room reserves-room = answer t future-room reserves-room
+
+-- the same for an allowance and an unrounded outstanding
+allowed : Triangle → ℕ → ℕ → Fraction
+unfolding computed unrounded-payment unrounded-adjustment unrounded-next payment-allowance adjustment-allowance next-allowance U A paid-allowance incurred-allowance _⊕_ _⊗_
+allowed t i k = A t i k
 
 pub E1-to-E12-hold : Hold E1-to-E12
 unfolding computed
 E1-to-E12-hold = refl
 
-pub X13-to-X29-hold : Hold X13-to-X29
+pub X13-to-X52-hold : Hold X13-to-X52
 unfolding computed
-X13-to-X29-hold = refl
+X13-to-X52-hold = refl
 
 pub E2-uses-them : E2-uses-its-allowances
-unfolding computed unrounded-payment unrounded-adjustment unrounded-next payment-allowance adjustment-allowance next-allowance U A _⊕_ _⊗_
+unfolding allowed
 E2-uses-them = (refl, refl)
+
+pub E5-allowances-hold : E5-allowances
+unfolding allowed
+E5-allowances-hold = (
+  record { left-positive = ltZ-yes tt; right-positive = ltZ-yes tt; across = refl },
+  record { left-positive = ltZ-yes tt; right-positive = ltZ-yes tt; across = refl },
+  record { left-positive = ltZ-yes tt; right-positive = ltZ-yes tt; across = refl },
+)
 
 pub cell-examples-hold : Cells-hold cell-examples
 unfolding computed cell-unseen question-10 cell-verdict cell-figures single-cell

@@ -54,10 +54,7 @@ first-goes-on m f h = first-more m f ∙ then-goes-on (f (suc m)) h
 
 pub first-stops : (j m : ℕ) (f : ℕ → Verdict) {question : ℕ} {p : Place}
     → first-to j f ≡ accepted → f (suc j) ≡ refused question p → j < m → first-to m f ≡ refused question p
-first-stops j zero f h e l = absurd (none l)
-  where
-    none : j < 0 → ⊥
-    none l = omega arith
+first-stops j zero f h e l = absurd (omega arith)
 first-stops j (suc m) f {question} {p} h e l = go (λ g. first-stops j m f h e g) (decLe (suc j) m)
   where
     go : (j < m → first-to m f ≡ refused question p) → Dec (suc j ≤ m) → first-to (suc m) f ≡ refused question p
@@ -67,10 +64,7 @@ first-stops j (suc m) f {question} {p} h e l = go (λ g. first-stops j m f h e g
         subst (λ (x : ℕ). first-to (suc x) f ≡ refused question p) s (first-goes-on j f h ∙ e)
 
 pub first-accepted : (m : ℕ) (f : ℕ → Verdict) → first-to m f ≡ accepted → (j : ℕ) → 1 ≤ j → j ≤ m → f j ≡ accepted
-first-accepted zero f e j p q = absurd (none p q)
-  where
-    none : 1 ≤ j → j ≤ 0 → ⊥
-    none p q = omega arith
+first-accepted zero f e j p q = absurd (omega arith)
 first-accepted (suc m) f e j p q = go (then-accepted (first-to m f) (f (suc m)) (sym (first-more m f) ∙ e)) (λ h. first-accepted m f h j p) (decLe j m)
   where
     go : (first-to m f ≡ accepted) × (f (suc m) ≡ accepted) → (first-to m f ≡ accepted → j ≤ m → f j ≡ accepted) → Dec (j ≤ m) → f j ≡ accepted

@@ -8,7 +8,7 @@ use lib.Signed.{_≤ℤ_, _<ℤ_}
 use Rattle.integers.specs.Fraction.{Fraction, size, _over_, _⊕_, _⊗_, Within}
 use Rattle.integers.proofs.RingSolver.{_:+_, _:-_, _:*_, _:=_, ring}
 use Rattle.integers.proofs.Order.{size-of-nonneg}
-use Rattle.integers.proofs.Nearness.{whole-within, nearest-within, balance-within, share-within, sum-within, sum-with-whole-within}
+use Rattle.integers.proofs.Nearness.{within-≡, whole-within, nearest-within, balance-within, share-within, sum-within, sum-with-whole-within}
 use Rattle.method.specs.Limits.{one-unit}
 use Rattle.method.specs.Counting.{up-to, sum-to, fractions-to}
 use Rattle.method.specs.Triangle.{Triangle, n}
@@ -81,11 +81,8 @@ module _ (t : Triangle) where
   unfolding A
   A-projected = account-projected t (λ r. pos 0 over pos 1) next-allowance
 
-  within-of : {x y : ℤ} {f g a b : Fraction} → x ≡ y → f ≡ g → a ≡ b → Within y g b → Within x f a
-  within-of p q r k = rw (p, q, r) k
-
   observed-within : (i k : ℕ) → i + k ≤ n t + 1 → Within (O t i k) (U t i k) (A t i k)
-  observed-within i k h = within-of (O-observed t i k h) (U-observed i k h) (A-observed i k h) (whole-within (R t i k *ℤ one-unit))
+  observed-within i k h = within-≡ (O-observed t i k h) (U-observed i k h) (A-observed i k h) (whole-within (R t i k *ℤ one-unit))
 
 module _ (t : Triangle) (ok : Accepted t) where
   pub O-within : (i k : ℕ) → 1 ≤ i → i ≤ n t → k ≤ n t → Within (O t i k) (U t i k) (A t i k)
@@ -99,7 +96,7 @@ module _ (t : Triangle) (ok : Accepted t) where
           let a : n t < i + k = omega arith in
           let b : 1 ≤ k = omega arith in
           let f = sums-in-range t (ok .observed) k b l .factor-nonneg in
-          within-of t (O-projected t i k a) (U-projected t i k a) (A-projected t i k a)
+          within-≡ (O-projected t i k a) (U-projected t i k a) (A-projected t i k a)
           (outstanding-within (O t i k) (sums t k) (U t i k) (A t i k) (ok .exposure k b l) before f)
 
   module _ (i k : ℕ) (p : Projected (n t) i k) where
@@ -121,7 +118,7 @@ module _ (t : Triangle) (ok : Accepted t) where
 
     pub movement-outstanding-within : Within (movement t i k .outstanding) (U t i (suc k)) (A t i (suc k))
     movement-outstanding-within =
-        within-of t (sym (O-projected t i k (p .after))) refl refl (O-within i (suc k) first-row (p .row) (p .year))
+        within-≡ (sym (O-projected t i k (p .after))) refl refl (O-within i (suc k) first-row (p .row) (p .year))
 
 -- ---- The reserves
 

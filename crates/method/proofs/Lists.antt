@@ -23,10 +23,7 @@ module _ (f : ℕ → List ℤ) (start : ℕ → ℕ) (starts : (m : ℕ) → le
 
   found : (m i j : ℕ) → i < m → j < length (f (suc i)) → Found m i j
   unfolding Found up-to
-  found zero i j h l = absurd (none h)
-    where
-      none : i < 0 → ⊥
-      none h = omega arith
+  found zero i j h l = absurd (omega arith)
   found (suc m) i j h l = go (λ q. found m i j q l) (decLe (suc i) m)
     where
       xs : List ℤ
@@ -96,10 +93,7 @@ module _ (t : Triangle) where
   pub future-holds : (which i k : ℕ) → which < 3 → Projected (n t) i k
       → cell-figure (n t) (future t) which i k ≡ getD (figures (movement t i k)) which (pos 0)
   unfolding Found future cell-figure
-  future-holds which zero k h p = absurd (none (p .after) (p .year))
-    where
-      none : n t < 0 + k → k < n t → ⊥
-      none q l = omega arith
+  future-holds which zero k h p = absurd (omega (arith, p .after, p .year))
   future-holds which (suc r) k h p =
       let j : ℕ = suc r + k - suc (n t) in
       let s : 3 * (unseen-before (suc r) + j) + which ≡ 3 * unseen-before (suc r) + (3 * j + which) = omega arith in
@@ -122,10 +116,7 @@ module _ (t : Triangle) where
   pub reserves-hold : (which i : ℕ) → which < 3 → AccidentYear (n t) i
       → year-figure (reserves t) which i ≡ getD (reserves-row t i) which (pos 0)
   unfolding reserves year-figure
-  reserves-hold which zero h p = absurd (none (p .first))
-    where
-      none : 1 ≤ 0 → ⊥
-      none q = omega arith
+  reserves-hold which zero h p = absurd (omega (arith, p .first))
   reserves-hold which (suc r) h p =
       let s : 3 * (suc r - 1) + which ≡ 3 * r + which = omega arith in
       ap (λ (x : ℕ). getD (reserves t) x (pos 0)) s ∙ in-threes (reserves-row t) reserves-row-length (n t) r which (p .last) h
@@ -142,10 +133,7 @@ record UnseenCell (n q : ℕ) : Type 0 where
 -- where q is below the number of unseen cells in the first m rows
 unseen-cell : (n m q : ℕ) → m ≤ n → q < unseen-before (suc m) → UnseenCell n q
 unfolding unseen-before
-unseen-cell n zero q h l = absurd (none l)
-  where
-    none : q < 0 → ⊥
-    none l = omega arith
+unseen-cell n zero q h l = absurd (omega arith)
 unseen-cell n (suc m) q h l = go (λ g. unseen-cell n m q (omega arith) g) (decLe (suc q) (unseen-before (suc m)))
   where
     more : unseen-before (suc (suc m)) ≡ unseen-before (suc m) + (suc m - 1)

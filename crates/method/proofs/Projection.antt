@@ -105,10 +105,7 @@ module _ (t : Triangle) (ok : Observed t) (exposure : (k : ℕ) → 1 ≤ k → 
   -- an outstanding from the last observed year on is not negative
   pub O-nonneg : (i k : ℕ) → 1 ≤ i → i ≤ n t → n t < i + k → k ≤ n t → pos 0 ≤ℤ O t i k
   unfolding movement
-  O-nonneg i zero p q h l = absurd (none q h)
-    where
-      none : i ≤ n t → n t < i + 0 → ⊥
-      none q h = omega arith
+  O-nonneg i zero p q h l = absurd (omega arith)
   O-nonneg i (suc k) p q h l = go (λ h. O-nonneg i k p q h (omega arith)) (decLe (i + suc k) (n t + 1))
     where
       scaled : (x : ℤ) → pos 0 ≤ℤ x → pos 0 ≤ℤ (x *ℤ one-unit)
@@ -147,10 +144,7 @@ module _ (t : Triangle) (ok : Observed t) (exposure : (k : ℕ) → 1 ≤ k → 
       go (yes l) m e =
           let s : i ≡ 1 = omega arith in
           O-observed t i (n t) (omega arith) ∙ ap (λ (x : ℕ). R t x (n t) *ℤ one-unit) s ∙ ap (λ x. x *ℤ one-unit) z
-      go (no l) zero e = absurd (small e)
-        where
-          small : n t ≡ 0 → ⊥
-          small e = omega (arith, ok .years .fewest)
+      go (no l) zero e = absurd (omega (arith, ok .years .fewest))
       go (no l) (suc k) e =
           ap (λ (x : ℕ). O t i x) e ∙ O-projected t i k (omega arith)
           ∙ next-zero (O t i k) (sums t k) (exposure k (omega (arith, ok .years .fewest)) (omega arith)) (last-factor-zero k e z)
@@ -160,10 +154,7 @@ module _ (t : Triangle) (ok : Observed t) (exposure : (k : ℕ) → 1 ≤ k → 
 module _ (t : Triangle) (ok : Accepted t) where
   -- an outstanding from the last observed year on is from 0 to the limit of question 9
   pub O-in-range : (i k : ℕ) → 1 ≤ i → i ≤ n t → n t < i + k → k ≤ n t → (pos 0 ≤ℤ O t i k) × (O t i k ≤ℤ greatest-figure)
-  O-in-range i zero p q h l = absurd (none q h)
-    where
-      none : i ≤ n t → n t < i + 0 → ⊥
-      none q h = omega arith
+  O-in-range i zero p q h l = absurd (omega arith)
   O-in-range i (suc k) p q h l = (nonneg, go (decLe (i + suc k) (n t + 1)))
     where
       nonneg : pos 0 ≤ℤ O t i (suc k)

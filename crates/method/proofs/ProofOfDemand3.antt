@@ -1,9 +1,9 @@
 -- Demand 3, proved for every accepted triangle. Assumes nothing.
-use mathlib.Core.Path.{_≡_, sym, ap₂, _∙_, subst}
+use mathlib.Core.Path.{_≡_, refl, sym, ap₂, _∙_, subst}
 use Prim.Native.Nat.{ℕ}
 use native.Mathlib.Omega.{arith}
 use lib.IntN.{ℤ, pos, _-ℤ_, _*ℤ_}
-use Rattle.integers.specs.Fraction.{Fraction, Within}
+use Rattle.integers.proofs.Nearness.{within-≡}
 use Rattle.integers.proofs.RingSolver.{con, _:*_}
 use Rattle.integers.proofs.LinearFacts.{integers, parts}
 use Rattle.method.specs.Limits.{one-unit}
@@ -13,7 +13,7 @@ use Rattle.method.specs.ProjectedYear.{figures, future, reserves, reserv
 use Rattle.method.specs.Questions.{lengths-right}
 use Rattle.method.specs.Answers.{Answer}
 use Rattle.method.specs.Claim.{AccidentYear, year-figure, Demand-3, Demand-3-of-every-accepted-triangle}
-use Rattle.method.proofs.Lists.{future-holds, reserves-hold}
+use Rattle.method.proofs.Lists.{future-has-length, future-holds, reserves-has-length, reserves-hold}
 use Rattle.method.proofs.QuestionFacts.{Accepted, accepted-triangle, lengths-right-true}
 use Rattle.method.proofs.WholeAnswers.{questions-accepted, accepted-answer}
 use Rattle.method.proofs.Projection.{O-observed, incurred-less-paid-is-closing, all-close}
@@ -25,10 +25,6 @@ units-of-zero : (x : ℤ) → x *ℤ one-unit ≡ pos 0 → x ≡ pos 0
 units-of-zero x e = omega (arith, integers, parts (con x :* con one-unit))
 
 module _ (t : Triangle) (ok : Accepted t) where
-  -- a figure read off a list is the method's
-  read : {x y : ℤ} {f a : Fraction} → x ≡ y → Within y f a → Within x f a
-  read {f = f} {a = a} e k = subst (λ (z : ℤ). Within z f a) (sym e) k
-
   closing-held : (i : ℕ) → AccidentYear (n t) i → year-figure (reserves t) 2 i ≡ closing t i
   unfolding reserves-row
   closing-held i y = reserves-hold t 2 i (omega arith) y
@@ -43,12 +39,14 @@ module _ (t : Triangle) (ok : Accepted t) where
   pub method-meets-demand-3 : Demand-3 t (future t) (reserves t)
   unfolding figures reserves-row closing
   method-meets-demand-3 = record {
-    payment = λ i k p. read (future-holds t 0 i k (omega arith) p) (movement-payment-within t ok i k p);
-    adjustment = λ i k p. read (future-holds t 1 i k (omega arith) p) (movement-adjustment-within t ok i k p);
-    outstanding = λ i k p. read (future-holds t 2 i k (omega arith) p) (movement-outstanding-within t ok i k p);
-    paid-reserve = λ i y. read (reserves-hold t 0 i (omega arith) y) (paid-reserve-within t ok i y);
-    incurred-reserve = λ i y. read (reserves-hold t 1 i (omega arith) y) (incurred-reserve-within t ok i y);
-    closing-outstanding = λ i y. read (reserves-hold t 2 i (omega arith) y) (O-within t ok i (n t) (y .first) (y .last) (omega arith));
+    future-whole = future-has-length t;
+    reserves-whole = reserves-has-length t;
+    payment = λ i k p. within-≡ (future-holds t 0 i k (omega arith) p) refl refl (movement-payment-within t ok i k p);
+    adjustment = λ i k p. within-≡ (future-holds t 1 i k (omega arith) p) refl refl (movement-adjustment-within t ok i k p);
+    outstanding = λ i k p. within-≡ (future-holds t 2 i k (omega arith) p) refl refl (movement-outstanding-within t ok i k p);
+    paid-reserve = λ i y. within-≡ (reserves-hold t 0 i (omega arith) y) refl refl (paid-reserve-within t ok i y);
+    incurred-reserve = λ i y. within-≡ (reserves-hold t 1 i (omega arith) y) refl refl (incurred-reserve-within t ok i y);
+    closing-outstanding = λ i y. within-≡ (reserves-hold t 2 i (omega arith) y) refl refl (O-within t ok i (n t) (y .first) (y .last) (omega arith));
     incurred-less-paid = λ i y.
         ap₂ _-ℤ_ (reserves-hold t 1 i (omega arith) y) (reserves-hold t 0 i (omega arith) y)
         ∙ incurred-less-paid-is-closing t i (y .first) (y .last) ∙ sym (closing-held i y);

@@ -27,13 +27,17 @@ pub record YearsInRange (years : ℤ) : Type 0 where
   pub fewest : natAbs fewest-years ≤ natAbs years
   pub most : natAbs years ≤ natAbs most-years
 
-pub years-in-range-true : (years : ℤ) → years-in-range years ≡ true → YearsInRange years
+years-in-range-true : (years : ℤ) → years-in-range years ≡ true → YearsInRange years
 unfolding years-in-range
 years-in-range-true years e = go years (from-to-true fewest-years most-years years e)
   where
     go : (years : ℤ) → (fewest-years ≤ℤ years) × (years ≤ℤ most-years) → YearsInRange years
     go (pos m) h = record { counted = refl; fewest = leb→le (natAbs fewest-years) m (h .0 .le); most = leb→le m (natAbs most-years) (h .1 .le) }
     go (negsuc m) h = absurd (h .0 .le)
+
+pub years-accepted : (years : ℤ) → question-1 years ≡ accepted → YearsInRange years
+unfolding question-1
+years-accepted years e = years-in-range-true years (ask-accepted (years-in-range years) 1 nowhere e)
 
 pub record CutInRange (cut : ℤ) (years : ℕ) : Type 0 where
   pub counted : cut ≡ pos (natAbs cut)
@@ -53,6 +57,10 @@ cut-in-range-true t y e =
       most = omega (arith, integers, h .1, parts (con (pos m) :- con (pos 1)));
     }
     go (negsuc c) m h = absurd (h .0 .le)
+
+pub lengths-accepted : (right : Bool) → question-3 right ≡ accepted → right ≡ true
+unfolding question-3
+lengths-accepted right e = ask-accepted right 3 nowhere e
 
 pub record InputLengths (t : Triangle) : Type 0 where
   pub payments : length (t .payments) ≡ amounts-length (n t)
@@ -194,7 +202,7 @@ pub record Accepted (t : Triangle) : Type 0 where
 
 -- where the lists have their lengths if the answer to question 3 says so
 pub accepted-triangle : (t : Triangle) (right : Bool) → (right ≡ true → InputLengths t) → questions t right ≡ accepted → Accepted t
-unfolding questions question-1 question-2 question-3
+unfolding questions question-2
 accepted-triangle t right lengths e =
     let (q₁, e₂) = then-accepted _ _ e in
     let (q₂, e₃) = then-accepted _ _ e₂ in
@@ -204,12 +212,12 @@ accepted-triangle t right lengths e =
     let (q₆, e₇) = then-accepted _ _ e₆ in
     let (q₇, e₈) = then-accepted _ _ e₇ in
     let (q₈, q₉) = then-accepted _ _ e₈ in
-    let years : YearsInRange (t .years) = years-in-range-true (t .years) (ask-accepted (years-in-range (t .years)) 1 nowhere q₁) in
+    let years : YearsInRange (t .years) = years-accepted (t .years) q₁ in
     record {
       observed = record {
         years = years;
         cut = cut-in-range-true t years (ask-accepted (cut-in-range t) 2 nowhere q₂);
-        lengths = lengths (ask-accepted right 3 nowhere q₃);
+        lengths = lengths (lengths-accepted right q₃);
         weight = weights-in-range t q₄;
         payment = payments-right t q₅;
         adjustment = adjustments-right t q₅;

@@ -1,21 +1,24 @@
 -- What document 01 says in other words than the definitions, proved of the definitions.
 use mathlib.Core.Path.{_≡_, refl, ap, ap₂, _∙_}
 use mathlib.Core.List.{[], _∷_}
-use Prim.Native.Nat.{ℕ, zero, suc, _+_, _-_, _≤_}
+use Prim.Native.Nat.{ℕ, zero, suc, _+_, _-_, _≤_, _<_}
 use native.Mathlib.Omega.{arith}
 use lib.IntN.{ℤ, pos, negℤ, _+ℤ_, _-ℤ_, _*ℤ_, +ℤ-idr}
-use lib.ListN.{List·getD-eq-default}
-use lib.Signed.{_<ℤ_}
+use lib.ListN.{length, List·getD-eq-default}
+use lib.Signed.{_<ℤ_, ltZ-yes}
 use Rattle.integers.specs.Fraction.{Fraction, _over_, _⊕_, _⊗_, _≈_}
+use Rattle.integers.specs.HalfUp.{GreatestNotAbove}
 use Rattle.integers.proofs.RingSolver.{con, _:+_, _:-_, _:*_, neg, _:=_, ring}
-use Rattle.integers.proofs.Rounding.{GreatestNotAbove, half-up-greatest}
+use Rattle.integers.proofs.Order.{*ℤ-positive}
+use Rattle.integers.proofs.Rounding.{half-up-greatest}
 use Rattle.method.specs.Limits.{one-unit}
 use Rattle.method.specs.Counting.{up-to}
-use Rattle.method.specs.Triangle.{Triangle, n, Y, entry}
+use Rattle.method.specs.Triangle.{Triangle, n, Y, S, T, entry, openings-length}
 use Rattle.method.specs.Outstandings.{Sums, R}
 use Rattle.method.specs.ProjectedYear.{share, closing, paid-reserve, incurred-reserve, reserves-row}
 use Rattle.method.specs.Unrounded.{unrounded-payment, unrounded-adjustment, unrounded-next, unrounded-paid, unrounded-incurred, paid-allowance, incurred-allowance}
-use Rattle.method.proofs.QuestionFacts.{Observed}
+use Rattle.method.specs.Questions.{accepted, question-5}
+use Rattle.method.proofs.QuestionFacts.{payments-right, adjustments-right}
 use Rattle.method.proofs.Projection.{O-observed}
 
 -- ---- "The greatest whole number not above the exact share plus one half, also for negative shares"
@@ -27,22 +30,22 @@ share-greatest r part d h = half-up-greatest (r *ℤ part) d h
 
 -- ---- "A row i with i at least Y starts from R(i, 0) = 0. An older row starts from its opening outstanding."
 
-module _ (t : Triangle) (ok : Observed t) where
-  pub later-row-starts-from-0 : (i : ℕ) → Y t ≤ i → R t i 0 ≡ pos 0
+module _ (t : Triangle) where
+  pub later-row-starts-from-0 : length (t .openings) ≡ openings-length (Y t) → (i : ℕ) → Y t ≤ i → R t i 0 ≡ pos 0
   unfolding R entry
-  later-row-starts-from-0 zero h = refl
-  later-row-starts-from-0 (suc r) h = List·getD-eq-default (t .openings) (pos 0) (omega (arith, ok .lengths .openings))
+  later-row-starts-from-0 long zero h = refl
+  later-row-starts-from-0 long (suc r) h = List·getD-eq-default (t .openings) (pos 0) (omega arith)
 
-  -- up to year Y − i, at which the opening stands
-  pub R-is-opening : (i k : ℕ) → 1 ≤ i → i + k ≤ Y t → R t i k ≡ entry (t .openings) i
+  -- up to year Y − i, at which the opening stands; it holds before question 6 is asked
+  pub R-is-opening : Y t < n t → question-5 t ≡ accepted → (i k : ℕ) → 1 ≤ i → i + k ≤ Y t → R t i k ≡ entry (t .openings) i
   unfolding R
-  R-is-opening i zero p h = refl
-  R-is-opening i (suc k) p h =
-      ap₂ (λ s u. R t i k -ℤ s +ℤ u)
-      (ok .payment i (suc k) p (omega arith) (omega (arith, ok .cut .most)) .zero-where-missing h)
-      (ok .adjustment i (suc k) p (omega arith) (omega (arith, ok .cut .most)) .zero-where-missing h)
+  R-is-opening c e i zero p h = refl
+  R-is-opening c e i (suc k) p h =
+      let s : S t i (suc k) ≡ pos 0 = payments-right t e i (suc k) p (omega arith) (omega arith) .zero-where-missing h in
+      let u : T t i (suc k) ≡ pos 0 = adjustments-right t e i (suc k) p (omega arith) (omega arith) .zero-where-missing h in
+      ap₂ (λ x y. R t i k -ℤ x +ℤ y) s u
       ∙ ring 1 (λ x. x :- con (pos 0) :+ con (pos 0) := x) tt (R t i k)
-      ∙ R-is-opening i k p (omega arith)
+      ∙ R-is-opening c e i k p (omega arith)
 
 -- ---- "Accident year 1 has nothing projected: its paid reserve is 0, its incurred reserve and closing both R(1, n) × 1,000,000"
 
@@ -60,7 +63,7 @@ module _ (t : Triangle) where
   -- "accident year 1 has the same reserves in both", and its allowances are 0
   pub first-year-unrounded : (unrounded-paid t 1 ≡ pos 0 over pos 1) × (unrounded-incurred t 1 ≈ (R t 1 (n t) *ℤ one-unit) over pos 1)
   unfolding unrounded-paid unrounded-incurred up-to _⊕_
-  first-year-unrounded = (refl, record { across = ap (λ (k : ℕ). (x k *ℤ pos 1 +ℤ pos 0) *ℤ pos 1) last ∙ one (x (n t)) })
+  first-year-unrounded = (refl, record { left-positive = ltZ-yes tt; right-positive = ltZ-yes tt; across = ap (λ (k : ℕ). (x k *ℤ pos 1 +ℤ pos 0) *ℤ pos 1) last ∙ one (x (n t)) })
     where
       x : ℕ → ℤ
       x k = R t 1 k *ℤ one-unit
@@ -81,12 +84,18 @@ module _ (t : Triangle) where
 abbrev pub negative : Fraction → Fraction
 negative f = negℤ (f .numerator) over f .denominator
 
-pub unrounded-next-is : (u : Fraction) (s : Sums) → u ⊕ negative (unrounded-payment u s) ⊕ unrounded-adjustment u s ≈ unrounded-next u s
+pub unrounded-next-is : (u : Fraction) (s : Sums) → pos 0 <ℤ u .denominator → pos 0 <ℤ s .D
+    → u ⊕ negative (unrounded-payment u s) ⊕ unrounded-adjustment u s ≈ unrounded-next u s
 unfolding unrounded-next unrounded-payment unrounded-adjustment _⊕_ _⊗_
-unrounded-next-is u s = record {
+unrounded-next-is u s h k = record {
+  left-positive = *ℤ-positive (u .denominator *ℤ (u .denominator *ℤ s .D)) (u .denominator *ℤ s .D) (*ℤ-positive (u .denominator) (u .denominator *ℤ s .D) h uD) uD;
+  right-positive = uD;
   across = ring 5
       (λ m d P Q D.
       ((m :* (d :* D) :+ neg (m :* P) :* d) :* (d :* D) :+ m :* Q :* (d :* (d :* D))) :* (d :* D)
       := (m :* D :- m :* P :+ m :* Q) :* (d :* (d :* D) :* (d :* D)))
       tt (u .numerator) (u .denominator) (s .P) (s .Q) (s .D);
 }
+  where
+    uD : pos 0 <ℤ (u .denominator *ℤ s .D)
+    uD = *ℤ-positive (u .denominator) (s .D) h k

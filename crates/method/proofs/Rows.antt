@@ -10,11 +10,11 @@ use lib.Seq.{length-take-le, getD-take, getD-drop}
 use lib.Signed.{_≤ℤ_}
 use Rattle.integers.proofs.LinearFacts.{integers}
 use Rattle.method.specs.Triangle.{amounts-length, cells-before, cell}
-use Rattle.method.specs.Questions.{accepted, nowhere, question-10, years-in-range, accident-year-in-range}
+use Rattle.method.specs.Questions.{accepted, nowhere, question-10, accident-year-in-range}
 use Rattle.method.specs.Answers.{Amounts, payments, adjustments, both-lengths-right, row-verdict, named-list, row-of, row}
 use Rattle.method.proofs.Tests.{and-true, from-to-true, eqb-true}
 use Rattle.method.proofs.FirstRefusal.{ask-accepted, then-accepted}
-use Rattle.method.proofs.QuestionFacts.{YearsInRange, years-in-range-true}
+use Rattle.method.proofs.QuestionFacts.{YearsInRange, years-accepted, lengths-accepted}
 use Rattle.method.proofs.Positions.{cell-at, row-inside}
 
 -- ---- Row r + 1 of a list of m rows, of m, m − 1, … cells
@@ -44,9 +44,9 @@ module _ (years : ℤ) (payment-list adjustment-list : List ℤ) (accident-year 
   row-accepted e =
       let (q₁, e₂) = then-accepted _ _ e in
       let (q₃, q₁₀) = then-accepted _ _ e₂ in
-      let y : YearsInRange years = years-in-range-true years (ask-accepted (years-in-range years) 1 nowhere q₁) in
+      let y : YearsInRange years = years-accepted years q₁ in
       let both = and-true (eqb (length payment-list) (amounts-length (natAbs years))) (eqb (length adjustment-list) (amounts-length (natAbs years)))
-      (ask-accepted (both-lengths-right years payment-list adjustment-list accident-year) 3 nowhere q₃) in
+      (lengths-accepted (both-lengths-right years payment-list adjustment-list accident-year) q₃) in
       let range = from-to-true (pos 1) years accident-year (ask-accepted (accident-year-in-range years accident-year) 10 nowhere q₁₀) in
       let counts : (1 ≤ natAbs accident-year) × (natAbs accident-year ≤ natAbs years) = count years accident-year (y .counted) (range .0) (range .1) in
       record {

@@ -7,9 +7,9 @@ use native.Mathlib.Omega.{arith}
 use lib.IntN.{ℤ, pos, _+ℤ_, _-ℤ_, _*ℤ_, natAbs, zero-*ℤ}
 use lib.Signed.{_≤ℤ_, ≤ℤ-refl}
 use Rattle.integers.proofs.LinearFacts.{integers}
-use Rattle.integers.proofs.Order.{*ℤ-nonneg, natAbs-by, natAbs-*ℤ-≤, natAbs-parts}
+use Rattle.integers.proofs.Order.{*ℤ-nonneg, natAbs-by, natAbs-≤, natAbs-*ℤ-≤}
 use Rattle.integers.proofs.RingSolver.{con}
-use Rattle.method.specs.Limits.{greatest-weight, greatest-amount, greatest-outstanding}
+use Rattle.method.specs.Limits.{most-years, greatest-weight, greatest-amount, greatest-outstanding}
 use Rattle.method.specs.Counting.{sum-to}
 use Rattle.method.specs.Triangle.{Triangle, n, Y, S, T, w}
 use Rattle.method.specs.Outstandings.{Sums, R, sums}
@@ -20,9 +20,9 @@ use Rattle.method.proofs.Sums.{sum-nonneg, sum-natAbs, sums-combined}
 abbrev pub greatest-term : ℕ
 greatest-term = natAbs (greatest-weight *ℤ greatest-amount)
 
--- and the sum of 31 of them, one for each accident year but the youngest
+-- and the sum of one for each accident year but the youngest, of the most years: 3,100,000,000,000
 abbrev pub greatest-sum : ℕ
-greatest-sum = 31 * greatest-term
+greatest-sum = (natAbs most-years - 1) * greatest-term
 
 -- the sums of a year as the projection takes them
 pub record SumsInRange (s : Sums) : Type 0 where
@@ -61,7 +61,7 @@ module _ (t : Triangle) (ok : Observed t) where
 
   few-terms : (k : ℕ) (f : ℕ → ℤ) → 1 ≤ k → ((i : ℕ) → 1 ≤ i → i ≤ n t - k → natAbs (f i) ≤ greatest-term) → natAbs (sum-to (n t - k) f) ≤ greatest-sum
   few-terms k f q h =
-      let few : n t - k ≤ 31 = omega (arith, ok .years .most) in
+      let few : n t - k ≤ natAbs most-years - 1 = omega (arith, ok .years .most) in
       le-trans (sum-natAbs (n t - k) greatest-term f h) (mul-le-mul-right greatest-term few)
 
   module _ (k : ℕ) (q : 1 ≤ k) (l : k < n t) where
@@ -87,9 +87,6 @@ module _ (t : Triangle) (ok : Observed t) where
       P-size = payments-size;
       Q-size = adjustments-size;
       D-nonneg = outstandings-nonneg k (omega arith) (omega arith);
-      D-most = at-most (sum-to (n t - k) (λ i. w t i k *ℤ R t i k)) exposure-size;
+      D-most = natAbs-≤ (sum-to (n t - k) (λ i. w t i k *ℤ R t i k)) greatest-sum .0 exposure-size .1;
       factor-nonneg = subst (λ (x : ℤ). pos 0 ≤ℤ x) (sym (factor-is t k)) (outstandings-nonneg (suc k) (omega arith) (omega arith));
     }
-      where
-        at-most : (x : ℤ) → natAbs x ≤ greatest-sum → x ≤ℤ pos greatest-sum
-        at-most x h = omega (arith, integers, natAbs-parts x)

@@ -5,9 +5,8 @@ use native.Mathlib.Nat.{suc-mul}
 use native.Mathlib.Omega.{arith}
 use lib.IntN.{ℤ, pos, _+ℤ_, _-ℤ_, _*ℤ_, natAbs}
 use lib.Signed.{_≤ℤ_, ≤ℤ-refl}
-use Rattle.integers.proofs.RingSolver.{con, _:+_, _:-_, _:*_, _:=_, ring}
-use Rattle.integers.proofs.LinearFacts.{integers, ≤ℤ-by}
-use Rattle.integers.proofs.Order.{natAbs-+ℤ}
+use Rattle.integers.proofs.RingSolver.{_:+_, _:-_, _:*_, _:=_, ring}
+use Rattle.integers.proofs.Order.{+ℤ-nonneg, natAbs-+ℤ}
 use Rattle.method.specs.Counting.{up-to, sum-to}
 
 pub sum-none : (f : ℕ → ℤ) → sum-to 0 f ≡ pos 0
@@ -21,10 +20,7 @@ sum-more m f = refl
 pub sum-nonneg : (m : ℕ) (f : ℕ → ℤ) → ((j : ℕ) → 1 ≤ j → j ≤ m → pos 0 ≤ℤ f j) → pos 0 ≤ℤ sum-to m f
 unfolding up-to
 sum-nonneg zero f h = ≤ℤ-refl (pos 0)
-sum-nonneg (suc m) f h = sum (sum-to m f) (f (suc m)) (sum-nonneg m f (λ j p q. h j p (omega arith))) (h (suc m) (omega arith) (omega arith))
-  where
-    sum : (x y : ℤ) → pos 0 ≤ℤ x → pos 0 ≤ℤ y → pos 0 ≤ℤ (x +ℤ y)
-    sum x y a b = ≤ℤ-by (con (pos 0)) (con x :+ con y) (omega (arith, integers))
+sum-nonneg (suc m) f h = +ℤ-nonneg (sum-to m f) (f (suc m)) (sum-nonneg m f (λ j p q. h j p (omega arith))) (h (suc m) (omega arith) (omega arith))
 
 pub sum-natAbs : (m bound : ℕ) (f : ℕ → ℤ) → ((j : ℕ) → 1 ≤ j → j ≤ m → natAbs (f j) ≤ bound) → natAbs (sum-to m f) ≤ m * bound
 unfolding up-to

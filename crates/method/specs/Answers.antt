@@ -7,7 +7,7 @@ use lib.IntN.{ℤ, pos, natAbs}
 use lib.ListN.{length, replicate, take, drop}
 use Rattle.method.specs.Triangle.{Triangle, amounts-length, cells-before}
 use Rattle.method.specs.ProjectedYear.{Movement, movement, future, reserves}
-use Rattle.method.specs.Questions.{Verdict, accepted, refused, _then_, ask, nowhere, questions, input-lengths-right, lengths-right, years-in-range, cell-unseen, accident-year-in-range, question-10}
+use Rattle.method.specs.Questions.{Verdict, accepted, refused, _then_, question-1, question-3, questions, input-lengths-right, lengths-right, cell-unseen, accident-year-in-range, question-10}
 
 -- ---- The call that fills both answer lists
 
@@ -16,18 +16,19 @@ pub record Answer : Type 0 where
   pub future : List ℤ
   pub reserves : List ℤ
 
-module _ (t : Triangle) (future-length reserves-length : ℕ) where
+-- for a triangle, and answer lists of the given lengths
+module _ (t : Triangle) (future-room reserves-room : ℕ) where
   -- a refused call fills both lists with zeros, of their actual lengths
   unfoldable pub filled : Verdict → Answer
   filled accepted = record { verdict = accepted; future = future t; reserves = reserves t }
   filled (refused question p) = record {
     verdict = refused question p;
-    future = replicate future-length (pos 0);
-    reserves = replicate reserves-length (pos 0);
+    future = replicate future-room (pos 0);
+    reserves = replicate reserves-room (pos 0);
   }
 
   unfoldable pub answer : Answer
-  answer = filled (questions t (lengths-right t future-length reserves-length))
+  answer = filled (questions t (lengths-right t future-room reserves-room))
 
 -- ---- A single unseen cell
 
@@ -52,6 +53,7 @@ module _ (t : Triangle) (accident-year development-year : ℤ) where
   single-cell = cell-figures cell-verdict
 
 -- ---- One accident year's seen figures; document 01 calls them a stretch of the lent list
+-- The row is answered by one call, and its number and place by a second one on the same arguments.
 
 -- the list that the call names
 pub data Amounts : Type 0 where
@@ -64,8 +66,8 @@ module _ (years : ℤ) (payment-list adjustment-list : List ℤ) (accident-year 
 
   unfoldable pub row-verdict : Verdict
   row-verdict =
-      ask (years-in-range years) 1 nowhere
-      then ask both-lengths-right 3 nowhere
+      question-1 years
+      then question-3 both-lengths-right
       then question-10 (accident-year-in-range years accident-year)
 
   unfoldable pub named-list : Amounts → List ℤ

@@ -5,7 +5,7 @@ use mathlib.Core.Bool.{true}
 use mathlib.Core.List.{List}
 use Prim.Native.Nat.{ℕ, zero, suc, _+_, _*_, _-_, _≤_, _<_}
 use lib.IntN.{ℤ, pos, _-ℤ_, natAbs}
-use lib.ListN.{getD}
+use lib.ListN.{length, getD}
 use Rattle.integers.specs.Fraction.{Within}
 use Rattle.method.specs.Triangle.{Triangle, n, future-length, reserves-length}
 use Rattle.method.specs.Outstandings.{R, sums}
@@ -42,7 +42,10 @@ year-figure reserves which i = getD reserves (3 * (i - 1) + which) (pos 0)
 -- ---- The claim
 
 pub record Demand-3 (t : Triangle) (future reserves : List ℤ) : Type 0 where
-  -- every figure written is within its allowance of the unrounded method
+  -- the lists are whole
+  pub future-whole : length future ≡ future-length (n t)
+  pub reserves-whole : length reserves ≡ reserves-length (n t)
+  -- every figure written keeps its allowance: it is at most that far from the unrounded method's
   pub payment : (i k : ℕ) → Projected (n t) i k
       → Within (cell-figure (n t) future 0 i k) (unrounded-payment (U t i k) (sums t k)) (payment-allowance (A t i k) (sums t k))
   pub adjustment : (i k : ℕ) → Projected (n t) i k
@@ -51,16 +54,16 @@ pub record Demand-3 (t : Triangle) (future reserves : List ℤ) : Type 0 where
   pub paid-reserve : (i : ℕ) → AccidentYear (n t) i → Within (year-figure reserves 0 i) (unrounded-paid t i) (paid-allowance t i)
   pub incurred-reserve : (i : ℕ) → AccidentYear (n t) i → Within (year-figure reserves 1 i) (unrounded-incurred t i) (incurred-allowance t i)
   pub closing-outstanding : (i : ℕ) → AccidentYear (n t) i → Within (year-figure reserves 2 i) (U t i (n t)) (A t i (n t))
-  -- incurred less paid reserve is exactly the closing outstanding
+  -- besides the allowances: incurred less paid reserve is exactly the closing outstanding,
   pub incurred-less-paid : (i : ℕ) → AccidentYear (n t) i → year-figure reserves 1 i -ℤ year-figure reserves 0 i ≡ year-figure reserves 2 i
-  -- all closings are 0 exactly when the oldest year's last outstanding is 0
+  -- and all closings are 0 exactly when the oldest year's last outstanding is 0
   pub all-closed : ((i : ℕ) → AccidentYear (n t) i → year-figure reserves 2 i ≡ pos 0) ↔ (R t 1 (n t) ≡ pos 0)
 
 -- Over every accepted triangle. Proved as `demand-3`.
 abbrev pub Demand-3-of-every-accepted-triangle : Type 0
 Demand-3-of-every-accepted-triangle =
-    (t : Triangle) (future-length reserves-length : ℕ) → answer t future-length reserves-length .verdict ≡ accepted
-    → Demand-3 t (answer t future-length reserves-length .future) (answer t future-length reserves-length .reserves)
+    (t : Triangle) (future-room reserves-room : ℕ) → answer t future-room reserves-room .verdict ≡ accepted
+    → Demand-3 t (answer t future-room reserves-room .future) (answer t future-room reserves-room .reserves)
 
 -- ---- A single cell
 

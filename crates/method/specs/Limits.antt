@@ -1,5 +1,6 @@
--- The numbers of document 01, each named once.
+-- The limits, the unit and the allowances of rounding of document 01, each named once.
 use lib.IntN.{ℤ, pos, _*ℤ_}
+use Rattle.integers.specs.Fraction.{Fraction, _over_}
 
 -- Question 1.
 abbrev pub fewest-years : ℤ
@@ -27,3 +28,10 @@ one-unit = pos 1_000_000
 -- Question 9: the size of a projected figure, in millionths.
 abbrev pub greatest-figure : ℤ
 greatest-figure = pos 10_000_000_000 *ℤ one-unit
+
+-- What rounding adds to an allowance, in millionths: one half for a share, and 1 for the outstanding, which two shares move.
+abbrev pub share-rounding : Fraction
+share-rounding = pos 1 over pos 2
+
+abbrev pub outstanding-rounding : Fraction
+outstanding-rounding = pos 1 over pos 1

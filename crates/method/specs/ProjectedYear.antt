@@ -13,6 +13,7 @@ use Rattle.method.specs.Outstandings.{Sums, R, sums}
 unfoldable pub share : ℤ → ℤ → ℤ → ℤ
 share r part d = half-up (r *ℤ part) d
 
+-- The payment and the adjustment of a projected year, and the outstanding that they lead to.
 pub record Movement : Type 0 where
   pub payment : ℤ
   pub adjustment : ℤ
@@ -61,9 +62,11 @@ module _ (t : Triangle) where
   unfoldable pub future : List ℤ
   future = list-to (n t) future-row
 
+  -- the paid-based reserve
   unfoldable pub paid-reserve : ℕ → ℤ
   paid-reserve i = sum-to (i - 1) (λ j. movement i (year-before i j) .payment)
 
+  -- the incurred-based reserve
   unfoldable pub incurred-reserve : ℕ → ℤ
   incurred-reserve i = R t i (last-observed i) *ℤ one-unit +ℤ sum-to (i - 1) (λ j. movement i (year-before i j) .adjustment)
 

@@ -61,7 +61,7 @@ each-in-row m question test i = first-to (m + 1 - i) (λ k. ask (test i k) quest
 unfoldable pub each-cell : ℕ → ℕ → (ℕ → ℕ → Bool) → Verdict
 each-cell m question test = first-to m (each-in-row m question test)
 
--- ---- The tests
+-- ---- Tests of numbers
 
 abbrev pub from-to : ℤ → ℤ → ℤ → Bool
 from-to low high x = leZ low x && leZ x high
@@ -77,6 +77,18 @@ figures-in-range m =
     leZ (size (m .payment)) greatest-figure
     && leZ (size (m .adjustment)) greatest-figure
     && leZ (size (m .outstanding)) greatest-figure
+
+-- ---- Questions 1 and 3, which a row's call asks too
+
+-- the number of years
+unfoldable pub question-1 : ℤ → Verdict
+question-1 years = ask (years-in-range years) 1 nowhere
+
+-- whether every list that the call lends has its length
+unfoldable pub question-3 : Bool → Verdict
+question-3 right = ask right 3 nowhere
+
+-- ---- The tests of a triangle
 
 module _ (t : Triangle) where
   unfoldable pub cut-in-range : Bool
@@ -120,15 +132,8 @@ module _ (t : Triangle) where
 
   -- ---- The questions on a triangle
 
-  unfoldable pub question-1 : Verdict
-  question-1 = ask (years-in-range (t .years)) 1 nowhere
-
   unfoldable pub question-2 : Verdict
   question-2 = ask cut-in-range 2 nowhere
-
-  -- the lengths of the lists that the call lends; a call for a single cell lends no answer lists
-  unfoldable pub question-3 : Bool → Verdict
-  question-3 right = ask right 3 nowhere
 
   unfoldable pub question-4 : Verdict
   question-4 = each-cell (n t - 1) 4 weight-in-range
@@ -154,10 +159,10 @@ module _ (t : Triangle) where
   unfoldable pub question-9 : Verdict
   question-9 = first-to (n t) question-9-of-year
 
-  -- in the order in which they are asked
+  -- In the order in which they are asked. A call for a single cell lends no answer lists, so question 3 is given its answer.
   unfoldable pub questions : Bool → Verdict
   questions right =
-      question-1
+      question-1 (t .years)
       then question-2
       then question-3 right
       then question-4

@@ -2,22 +2,23 @@
 -- They are built year by year from R × one unit and from the three sums, never from a rounded figure, and belong to the statement only.
 use Prim.Native.Nat.{ℕ, _-_}
 use lib.IntN.{pos, _+ℤ_, _-ℤ_, _*ℤ_}
-use Rattle.integers.specs.Fraction.{Fraction, size, _over_, _⊕_, _⊗_}
-use Rattle.method.specs.Limits.{one-unit}
+use Rattle.integers.specs.Fraction.{Fraction, _over_, _⊕_, _⊗_, without-sign}
+use Rattle.method.specs.Limits.{one-unit, share-rounding, outstanding-rounding}
 use Rattle.method.specs.Counting.{fractions-to}
 use Rattle.method.specs.Triangle.{Triangle}
-use Rattle.method.specs.Outstandings.{Sums, R, sums}
+use Rattle.method.specs.Outstandings.{Sums, payment-ratio, adjustment-ratio, outstanding-factor, R, sums}
 use Rattle.method.specs.ProjectedYear.{account, last-observed, year-before}
 
 -- ---- One year of the unrounded outstanding u
 
 unfoldable pub unrounded-payment : Fraction → Sums → Fraction
-unrounded-payment u s = u ⊗ s .P over s .D
+unrounded-payment u s = u ⊗ payment-ratio s
 
 unfoldable pub unrounded-adjustment : Fraction → Sums → Fraction
-unrounded-adjustment u s = u ⊗ s .Q over s .D
+unrounded-adjustment u s = u ⊗ adjustment-ratio s
 
 -- u less the payment plus the adjustment. The two share the denominator of u times D, and u is brought to it.
+-- That this is the same number as by general fractions is the law `unrounded-next-is` in proofs/Readings.antt.
 unfoldable pub unrounded-next : Fraction → Sums → Fraction
 unrounded-next u s =
     (u .numerator *ℤ s .D -ℤ unrounded-payment u s .numerator +ℤ unrounded-adjustment u s .numerator) over (u .denominator *ℤ s .D)
@@ -25,14 +26,13 @@ unrounded-next u s =
 -- ---- One year of the outstanding's allowance a; "allowance" is a term of document 01
 
 unfoldable pub payment-allowance : Fraction → Sums → Fraction
-payment-allowance a s = a ⊗ size (s .P) over s .D ⊕ pos 1 over pos 2
+payment-allowance a s = a ⊗ without-sign (payment-ratio s) ⊕ share-rounding
 
 unfoldable pub adjustment-allowance : Fraction → Sums → Fraction
-adjustment-allowance a s = a ⊗ size (s .Q) over s .D ⊕ pos 1 over pos 2
+adjustment-allowance a s = a ⊗ without-sign (adjustment-ratio s) ⊕ share-rounding
 
--- times the outstanding factor, plus 1
 unfoldable pub next-allowance : Fraction → Sums → Fraction
-next-allowance a s = a ⊗ (s .D -ℤ s .P +ℤ s .Q) over s .D ⊕ pos 1 over pos 1
+next-allowance a s = a ⊗ outstanding-factor s ⊕ outstanding-rounding
 
 module _ (t : Triangle) where
   -- the unrounded outstanding of cell (i, k)
