@@ -1,6 +1,6 @@
 #!/usr/bin/env python3
 """Prints the number, the place, both answer lists and the reserve list's allowances of each example in
-crates/method/specs/Examples.antt.
+crates/method/specs/Examples.antt and OtherReadings.antt.
 
 This is where the figures that document 01 does not print come from. Nothing in the gate runs it.
 """

@@ -116,7 +116,7 @@ def main():
         table = f"\nabbrev pub random-calls : List Example\nrandom-calls = {' ∷ '.join([*names, '[]'])}\n"
         examples.write_text(text + "\n" + "\n".join(rows) + table)
         proof = copy / "crates/method/proofs/Examples.antt"
-        text = proof.read_text().replace("Examples.{", "Examples.{random-calls, ")
+        text = proof.read_text().replace("specs.Examples.{", "specs.Examples.{random-calls, ")
         proof.write_text(text + "\npub random-calls-hold : Hold random-calls\nunfolding computed\nrandom-calls-hold = refl\n")
         run = subprocess.run(["rt", "check", "method"], cwd=copy, capture_output=True, text=True)
     print(f"seed {seed}, calls by number:", dict(sorted(numbers.items())))

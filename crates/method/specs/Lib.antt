@@ -9,3 +9,5 @@ pub mod Questions
 pub mod Answers
 pub mod Claim
 pub mod Examples
+pub mod OtherReadings
+pub mod CellAndRowExamples
