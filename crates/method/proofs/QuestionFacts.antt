@@ -200,6 +200,14 @@ pub record Accepted (t : Triangle) : Type 0 where
   pub exposure : (k : ℕ) → 1 ≤ k → k < n t → pos 0 <ℤ sums t k .D
   pub figures : (i k : ℕ) → Projected (n t) i k → FiguresInRange (movement t i k)
 
+-- question 3 was answered yes
+pub lists-right : (t : Triangle) (right : Bool) → questions t right ≡ accepted → right ≡ true
+unfolding questions
+lists-right t right e =
+    let (q₁, e₂) = then-accepted _ _ e in
+    let (q₂, e₃) = then-accepted _ _ e₂ in
+    lengths-accepted right (then-accepted _ _ e₃ .0)
+
 -- where the lists have their lengths if the answer to question 3 says so
 pub accepted-triangle : (t : Triangle) (right : Bool) → (right ≡ true → InputLengths t) → questions t right ≡ accepted → Accepted t
 unfolding questions question-2
@@ -217,7 +225,7 @@ accepted-triangle t right lengths e =
       observed = record {
         years = years;
         cut = cut-in-range-true t years (ask-accepted (cut-in-range t) 2 nowhere q₂);
-        lengths = lengths (lengths-accepted right q₃);
+        lengths = lengths (lists-right t right e);
         weight = weights-in-range t q₄;
         payment = payments-right t q₅;
         adjustment = adjustments-right t q₅;

@@ -10,7 +10,7 @@ use lib.Signed.{leZ, ltZ, _≤ℤ_, _<ℤ_, leZ-yes, ltZ-yes}
 use Rattle.integers.proofs.RingSolver.{con, _:+_}
 use Rattle.integers.proofs.LinearFacts.{integers, parts}
 use Rattle.method.specs.Triangle.{Triangle, n, future-length, reserves-length}
-use Rattle.method.specs.ProjectedYear.{figures, movement, future}
+use Rattle.method.specs.ProjectedYear.{figures, movement}
 use Rattle.method.specs.Questions.{Verdict, accepted, refused, nowhere, ask, from-to, cell-unseen, question-10, questions, input-lengths-right, lengths-right}
 use Rattle.method.specs.Answers.{Answer, CellAnswer, answer, cell-verdict, cell-figures, single-cell}
 use Rattle.method.specs.Claim.{Projected, cell-figure, SameAsFuture, filling-call, Single-cell-of-every-triangle}

@@ -7,11 +7,10 @@ use Rattle.method.specs.Triangle.{Triangle}
 use Rattle.method.specs.ProjectedYear.{future, reserves}
 use Rattle.method.specs.Questions.{Place, Verdict, accepted, refused, questions, lengths-right}
 use Rattle.method.specs.Answers.{filled, answer}
-use Rattle.method.proofs.FirstRefusal.{then-accepted}
-use Rattle.method.proofs.QuestionFacts.{AllLengths, lengths-right-true, lengths-accepted}
+use Rattle.method.proofs.QuestionFacts.{AllLengths, lengths-right-true, lists-right}
 use Rattle.method.proofs.Lists.{future-has-length, reserves-has-length}
 
-pub filled-verdict : (t : Triangle) (future-length reserves-length : ℕ) (v : Verdict) → filled t future-length reserves-length v .verdict ≡ v
+pub filled-verdict : (t : Triangle) (future-room reserves-room : ℕ) (v : Verdict) → filled t future-room reserves-room v .verdict ≡ v
 unfolding filled
 filled-verdict t f r accepted = refl
 filled-verdict t f r (refused question p) = refl
@@ -30,18 +29,10 @@ module _ (t : Triangle) (f r : ℕ) where
   unfolding answer filled
   refused-answer question p e = ap (filled t f r) e
 
-  all-lengths : questions t (lengths-right t f r) ≡ accepted → AllLengths t f r
-  unfolding questions
-  all-lengths e =
-      let (q₁, e₂) = then-accepted _ _ e in
-      let (q₂, e₃) = then-accepted _ _ e₂ in
-      let (q₃, e₄) = then-accepted _ _ e₃ in
-      lengths-right-true t f r (lengths-accepted (lengths-right t f r) q₃)
-
   filled-lengths : (v : Verdict) → questions t (lengths-right t f r) ≡ v → (length (filled t f r v .future) ≡ f) × (length (filled t f r v .reserves) ≡ r)
   unfolding filled
   filled-lengths accepted e =
-      let l : AllLengths t f r = all-lengths e in
+      let l : AllLengths t f r = lengths-right-true t f r (lists-right t (lengths-right t f r) e) in
       (future-has-length t ∙ sym (l .future), reserves-has-length t ∙ sym (l .reserves))
   filled-lengths (refused question p) e = (length-replicate f (pos 0), length-replicate r (pos 0))
 

@@ -11,7 +11,7 @@ use Rattle.method.specs.Triangle.{Triangle, weights-length, future-lengt
 use Rattle.method.specs.Outstandings.{sums}
 use Rattle.method.specs.Unrounded.{U, A, unrounded-payment, unrounded-adjustment, payment-allowance, adjustment-allowance, paid-allowance, incurred-allowance}
 use Rattle.method.specs.Questions.{number, place}
-use Rattle.method.specs.Answers.{Answer, answer, payments, adjustments}
+use Rattle.method.specs.Answers.{Answer, answer}
 
 -- ---- How a row is written
 
