@@ -1,13 +1,16 @@
 -- What signed machine operations ask and give: a result that fits its width, and the quotient and remainder of a division
 -- by a positive number, which the machine rounds toward zero (`quotZ`, `remZ`). Reach for it in the proof of a function's body.
-use mathlib.Core.Path.{_≡_}
+use mathlib.Core.Path.{_≡_, refl, sym, _∙_}
 use Prim.Native.Nat.{ℕ, suc, _/_, _%_, _^_, _≤_, _<_}
 use native.Mathlib.Nat.{le-trans, lt-of-le-of-lt, le-of-eq, div-add-mod', mod-lt, div-le-self}
 use native.Mathlib.Omega.{arith}
+use lib.Dec.{eqb}
 use lib.IntN.{ℤ, pos, negsuc, negℤ, _+ℤ_, _-ℤ_, _*ℤ_, natAbs}
-use lib.Signed.{_≤ℤ_, _<ℤ_, quotZ, remZ, mag-rem}
-use mir.Syntax.{Width}
-use mir.Val.{SFits, hbits, ofZ}
+use lib.Signed.{_≤ℤ_, _<ℤ_, mag, quotZ, remZ, mag-rem}
+use borrow.Author.Tests.{ne-eqb}
+use mir.Syntax.{Width, w64}
+use mir.Val.{SFits, hbits, toZ, ofZ}
+use mir.Facts.{toZ-ofZ}
 use Rattle.integers.specs.HalfUp.{floor}
 use Rattle.integers.proofs.RingSolver.{con, _:+_, _:-_, _:*_, neg}
 use Rattle.integers.proofs.LinearFacts.{integers, parts, ≡-by, <ℤ-by, fits-by}
@@ -19,6 +22,17 @@ use Rattle.integers.proofs.Rounding.{floor-unique}
 pub fits-natAbs : (w : Width) (z : ℤ) (k : ℕ) → natAbs z ≤ k → k < 2 ^ hbits w → SFits w z
 fits-natAbs w (pos n) k h l = record { sfits = omega arith }
 fits-natAbs w (negsuc n) k h l = record { sfits = omega arith }
+
+-- ---- A number of 64 bits, from its bits; an element of a slice says of itself that its size fits
+
+pub held : (z : ℤ) → mag z < 2 ^ hbits w64 → toZ w64 (ofZ w64 z) ≡ z
+held z h = toZ-ofZ {w = w64} {z = z} (record { sfits = h })
+
+-- ---- The bits of a number of 64 bits are 0 where it is 0
+
+pub zero-bits : (z : ℤ) → SFits w64 z → eqb (ofZ w64 z) 0 ≡ eqb (natAbs z) 0
+zero-bits (pos n) f = refl
+zero-bits (negsuc n) f = ne-eqb (ofZ w64 (negsuc n)) 0 (λ e. omega (arith, f .sfits)) ∙ sym (ne-eqb (suc n) 0 (λ e. omega arith))
 
 -- ---- Division by a positive number
 

@@ -9,7 +9,7 @@ use Rattle.method.specs.Triangle.{Triangle, cells-before, cell, entry}
 use Rattle.method.specs.Outstandings.{R, sums}
 use Rattle.method.specs.ProjectedYear.{share, next-year, figures, account, O, movement, future-row, future, paid-reserve, incurred-reserve, closing, reserves-row, reserves}
 use Rattle.method.specs.Unrounded.{unrounded-payment, unrounded-adjustment, unrounded-next, payment-allowance, adjustment-allowance, next-allowance, U, A, paid-allowance, incurred-allowance}
-use Rattle.method.specs.Questions.{number, place, _then_, ask, first-to, each-in-row, each-cell, years-in-range, figures-in-range, cut-in-range, input-lengths-right, lengths-right, weight-in-range, amount-right, known, outstanding-in-range, unweighted, weight-allowed, exposure-positive, question-1, question-2, question-3, question-4, question-5, question-6, question-7, question-8, question-9-of-year, question-9, questions, cell-unseen, accident-year-in-range, question-10}
+use Rattle.method.specs.Questions.{number, place, _then_, ask, first-to, each-in-row, each-cell, years-in-range, figures-in-range, cut-in-range, input-lengths-right, lengths-right, weight-in-range, amount-right, known, outstanding-in-range, unweighted, weight-allowed, exposure-positive, question-1, question-2, question-3, question-4, question-5, question-6, question-7, question-8, question-9-of-year, question-9, list-questions, input-questions, observed-questions, questions, cell-unseen, accident-year-in-range, question-10}
 use Rattle.method.specs.Answers.{Answer, filled, answer, cell-verdict, cell-figures, single-cell, both-lengths-right, row-verdict, named-list, row-of, row}
 use Rattle.method.specs.Examples.{Hold, E1-to-E12, E2-uses-its-allowances, E5-allowances}
 use Rattle.method.specs.OtherReadings.{X13-to-X52}
@@ -17,7 +17,7 @@ use Rattle.method.specs.CellAndRowExamples.{Cells-hold, cell-examples, R
 
 -- the answer, with every definition on the way open
 computed : Triangle → ℕ → ℕ → Answer
-unfolding floor half-up up-to cells-before cell entry R sums share next-year figures account O movement future-row future paid-reserve incurred-reserve closing reserves-row reserves _then_ ask first-to each-in-row each-cell years-in-range figures-in-range cut-in-range input-lengths-right lengths-right weight-in-range amount-right known outstanding-in-range unweighted weight-allowed exposure-positive question-1 question-2 question-3 question-4 question-5 question-6 question-7 question-8 question-9-of-year question-9 questions filled answer number place
+unfolding floor half-up up-to cells-before cell entry R sums share next-year figures account O movement future-row future paid-reserve incurred-reserve closing reserves-row reserves _then_ ask first-to each-in-row each-cell years-in-range figures-in-range cut-in-range input-lengths-right lengths-right weight-in-range amount-right known outstanding-in-range unweighted weight-allowed exposure-positive question-1 question-2 question-3 question-4 question-5 question-6 question-7 question-8 question-9-of-year question-9 list-questions input-questions observed-questions questions filled answer number place
 computed t future-room reserves-room = answer t future-room reserves-room
 
 -- the same for an allowance and an unrounded outstanding

@@ -50,6 +50,11 @@ cell-inside m r j h =
 pub row-inside : (m r : ℕ) → r < m → cells-before m r + (m - r) ≤ amounts-length m
 row-inside m r h = omega (arith, cell-inside m r (m - suc r) (omega arith))
 
+-- counted from the end: with s rows left, of s, s − 1, … cells
+pub cells-before-is : (m r s : ℕ) → r + s ≡ m → (cells-before m r ≡ amounts-length m - s * (s + 1) / 2) × (s * (s + 1) / 2 ≤ amounts-length m)
+cells-before-is m r s e =
+    omega (arith, twice-cells-before m r s e, ap (λ (x : ℕ). m * x) (add-one m), ap (λ (x : ℕ). s * x) (add-one s))
+
 -- a list of weights is a list of amounts of one year less
 pub weights-length-is : (n : ℕ) → 1 ≤ n → weights-length n ≡ amounts-length (n - 1)
 weights-length-is n h =

@@ -15,7 +15,7 @@ use Rattle.method.specs.Limits.{fewest-years, most-years, greatest-weigh
 use Rattle.method.specs.Triangle.{Triangle, n, Y, S, T, w, missing, amounts-length, weights-length, openings-length, future-length, reserves-length}
 use Rattle.method.specs.Outstandings.{R, sums}
 use Rattle.method.specs.ProjectedYear.{Movement, movement, year-before}
-use Rattle.method.specs.Questions.{accepted, at, nowhere, ask, each-cell, from-to, is-zero, years-in-range, cut-in-range, input-lengths-right, lengths-right, weight-in-range, amount-right, known, outstanding-in-range, unweighted, weight-allowed, exposure-positive, figures-in-range, question-1, question-2, question-3, question-4, question-5, question-6, question-7, question-8, question-9-of-year, question-9, questions}
+use Rattle.method.specs.Questions.{accepted, at, nowhere, ask, each-cell, from-to, is-zero, years-in-range, cut-in-range, input-lengths-right, lengths-right, weight-in-range, amount-right, known, outstanding-in-range, unweighted, weight-allowed, exposure-positive, figures-in-range, question-1, question-2, question-3, question-4, question-5, question-6, question-7, question-8, question-9-of-year, question-9, list-questions, input-questions, observed-questions, questions}
 use Rattle.method.specs.Claim.{Projected}
 use Rattle.method.proofs.Tests.{is-true, and-true, unless-true, from-to-true, is-zero-true, eqb-true, leb-true}
 use Rattle.method.proofs.FirstRefusal.{ask-accepted, then-accepted, first-accepted, each-cell-passed}
@@ -44,11 +44,11 @@ pub record CutInRange (cut : ℤ) (years : ℕ) : Type 0 where
   pub least : 1 ≤ natAbs cut
   pub most : natAbs cut < years
 
-pub cut-in-range-true : (t : Triangle) → YearsInRange (t .years) → cut-in-range t ≡ true → CutInRange (t .cut) (n t)
-unfolding cut-in-range
-cut-in-range-true t y e =
-    go (t .cut) (n t) (from-to-true (pos 1) (pos (n t) -ℤ pos 1) (t .cut)
-    (subst (λ (x : ℤ). from-to (pos 1) (x -ℤ pos 1) (t .cut) ≡ true) (y .counted) e))
+pub cut-accepted : (years cut : ℤ) → YearsInRange years → question-2 years cut ≡ accepted → CutInRange cut (natAbs years)
+unfolding question-2 cut-in-range
+cut-accepted years cut y e =
+    go cut (natAbs years) (from-to-true (pos 1) (pos (natAbs years) -ℤ pos 1) cut
+    (subst (λ (x : ℤ). from-to (pos 1) (x -ℤ pos 1) cut ≡ true) (y .counted) (ask-accepted (cut-in-range years cut) 2 nowhere e)))
   where
     go : (cut : ℤ) (m : ℕ) → (pos 1 ≤ℤ cut) × (cut ≤ℤ (pos m -ℤ pos 1)) → CutInRange cut m
     go (pos c) m h = record {
@@ -201,37 +201,47 @@ pub record Accepted (t : Triangle) : Type 0 where
   pub figures : (i k : ℕ) → Projected (n t) i k → FiguresInRange (movement t i k)
 
 -- question 3 was answered yes
-pub lists-right : (t : Triangle) (right : Bool) → questions t right ≡ accepted → right ≡ true
-unfolding questions
+pub lists-right : (t : Triangle) (right : Bool) → input-questions t right ≡ accepted → right ≡ true
+unfolding input-questions
 lists-right t right e =
     let (q₁, e₂) = then-accepted _ _ e in
     let (q₂, e₃) = then-accepted _ _ e₂ in
     lengths-accepted right (then-accepted _ _ e₃ .0)
 
 -- where the lists have their lengths if the answer to question 3 says so
-pub accepted-triangle : (t : Triangle) (right : Bool) → (right ≡ true → InputLengths t) → questions t right ≡ accepted → Accepted t
-unfolding questions question-2
-accepted-triangle t right lengths e =
+pub observed-triangle : (t : Triangle) (right : Bool) → (right ≡ true → InputLengths t) → input-questions t right ≡ accepted → Observed t
+unfolding input-questions list-questions
+observed-triangle t right lengths e =
     let (q₁, e₂) = then-accepted _ _ e in
     let (q₂, e₃) = then-accepted _ _ e₂ in
     let (q₃, e₄) = then-accepted _ _ e₃ in
     let (q₄, e₅) = then-accepted _ _ e₄ in
     let (q₅, e₆) = then-accepted _ _ e₅ in
-    let (q₆, e₇) = then-accepted _ _ e₆ in
-    let (q₇, e₈) = then-accepted _ _ e₇ in
-    let (q₈, q₉) = then-accepted _ _ e₈ in
+    let (q₆, q₇) = then-accepted _ _ e₆ in
     let years : YearsInRange (t .years) = years-accepted (t .years) q₁ in
     record {
-      observed = record {
-        years = years;
-        cut = cut-in-range-true t years (ask-accepted (cut-in-range t) 2 nowhere q₂);
-        lengths = lengths (lists-right t right e);
-        weight = weights-in-range t q₄;
-        payment = payments-right t q₅;
-        adjustment = adjustments-right t q₅;
-        outstanding = outstandings-in-range t q₆;
-        unweighted = weights-allowed t q₇;
-      };
+      years = years;
+      cut = cut-accepted (t .years) (t .cut) years q₂;
+      lengths = lengths (lists-right t right e);
+      weight = weights-in-range t q₄;
+      payment = payments-right t q₅;
+      adjustment = adjustments-right t q₅;
+      outstanding = outstandings-in-range t q₆;
+      unweighted = weights-allowed t q₇;
+    }
+
+-- what was asked first was accepted too
+pub inputs-accepted : (t : Triangle) (right : Bool) → questions t right ≡ accepted → input-questions t right ≡ accepted
+unfolding questions observed-questions
+inputs-accepted t right e = then-accepted _ _ (then-accepted _ _ e .0) .0
+
+pub accepted-triangle : (t : Triangle) (right : Bool) → (right ≡ true → InputLengths t) → questions t right ≡ accepted → Accepted t
+unfolding questions observed-questions
+accepted-triangle t right lengths e =
+    let (before, q₉) = then-accepted _ _ e in
+    let (inputs, q₈) = then-accepted _ _ before in
+    record {
+      observed = observed-triangle t right lengths inputs;
       exposure = exposures-positive t q₈;
       figures = figures-allowed t q₉;
     }

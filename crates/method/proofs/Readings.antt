@@ -1,24 +1,24 @@
 -- What document 01 says in other words than the definitions, proved of the definitions.
-use mathlib.Core.Path.{_≡_, refl, ap, ap₂, _∙_}
+use mathlib.Core.Path.{_≡_, refl, sym, ap, ap₂, _∙_, subst}
 use mathlib.Core.List.{[], _∷_}
 use Prim.Native.Nat.{ℕ, zero, suc, _+_, _-_, _≤_, _<_}
+use native.Mathlib.Decide.{decLe}
 use native.Mathlib.Omega.{arith}
 use lib.IntN.{ℤ, pos, negℤ, _+ℤ_, _-ℤ_, _*ℤ_, +ℤ-idr}
 use lib.ListN.{length, List·getD-eq-default}
-use lib.Signed.{_<ℤ_, ltZ-yes}
+use lib.Signed.{_≤ℤ_, _<ℤ_, leZ-yes, ltZ-yes}
 use Rattle.integers.specs.Fraction.{Fraction, _over_, _⊕_, _⊗_, _≈_}
 use Rattle.integers.specs.HalfUp.{GreatestNotAbove}
 use Rattle.integers.proofs.RingSolver.{con, _:+_, _:-_, _:*_, neg, _:=_, ring}
 use Rattle.integers.proofs.Order.{*ℤ-positive}
 use Rattle.integers.proofs.Rounding.{half-up-greatest}
-use Rattle.method.specs.Limits.{one-unit}
+use Rattle.method.specs.Limits.{one-unit, greatest-outstanding}
 use Rattle.method.specs.Counting.{up-to}
 use Rattle.method.specs.Triangle.{Triangle, n, Y, S, T, entry, openings-length}
 use Rattle.method.specs.Outstandings.{Sums, R}
 use Rattle.method.specs.ProjectedYear.{share, closing, paid-reserve, incurred-reserve, reserves-row}
 use Rattle.method.specs.Unrounded.{unrounded-payment, unrounded-adjustment, unrounded-next, unrounded-paid, unrounded-incurred, paid-allowance, incurred-allowance}
-use Rattle.method.specs.Questions.{accepted, question-5}
-use Rattle.method.proofs.QuestionFacts.{payments-right, adjustments-right}
+use Rattle.method.proofs.QuestionFacts.{AmountRight, Observed}
 use Rattle.method.proofs.Projection.{O-observed}
 
 -- ---- "The greatest whole number not above the exact share plus one half, also for negative shares"
@@ -36,16 +36,38 @@ module _ (t : Triangle) where
   later-row-starts-from-0 long zero h = refl
   later-row-starts-from-0 long (suc r) h = List·getD-eq-default (t .openings) (pos 0) (omega arith)
 
-  -- up to year Y − i, at which the opening stands; it holds before question 6 is asked
-  pub R-is-opening : Y t < n t → question-5 t ≡ accepted → (i k : ℕ) → 1 ≤ i → i + k ≤ Y t → R t i k ≡ entry (t .openings) i
+  -- up to year Y − i, at which the opening stands; it wants only what question 5 leaves, so it holds before question 6 is asked
+  pub R-is-opening : Y t < n t
+      → ((i k : ℕ) → 1 ≤ i → 1 ≤ k → i + k ≤ n t + 1 → AmountRight t (S t) i k) → ((i k : ℕ) → 1 ≤ i → 1 ≤ k → i + k ≤ n t + 1 → AmountRight t (T t) i k)
+      → (i k : ℕ) → 1 ≤ i → i + k ≤ Y t → R t i k ≡ entry (t .openings) i
   unfolding R
-  R-is-opening c e i zero p h = refl
-  R-is-opening c e i (suc k) p h =
-      let s : S t i (suc k) ≡ pos 0 = payments-right t e i (suc k) p (omega arith) (omega arith) .zero-where-missing h in
-      let u : T t i (suc k) ≡ pos 0 = adjustments-right t e i (suc k) p (omega arith) (omega arith) .zero-where-missing h in
+  R-is-opening c paid adjusted i zero p h = refl
+  R-is-opening c paid adjusted i (suc k) p h =
+      let s : S t i (suc k) ≡ pos 0 = paid i (suc k) p (omega arith) (omega arith) .zero-where-missing h in
+      let u : T t i (suc k) ≡ pos 0 = adjusted i (suc k) p (omega arith) (omega arith) .zero-where-missing h in
       ap₂ (λ x y. R t i k -ℤ x +ℤ y) s u
       ∙ ring 1 (λ x. x :- con (pos 0) :+ con (pos 0) := x) tt (R t i k)
-      ∙ R-is-opening c e i k p (omega arith)
+      ∙ R-is-opening c paid adjusted i k p (omega arith)
+
+  -- so every outstanding of the recursion is in range where questions 1 to 7 accept, known or not
+  pub R-in-range : Observed t → (i k : ℕ) → 1 ≤ i → i + k ≤ n t + 1 → (pos 0 ≤ℤ R t i k) × (R t i k ≤ℤ greatest-outstanding)
+  R-in-range ok i k p h = go (decLe (Y t) (i + k)) (decLe 1 k)
+    where
+      InRange : ℤ → Type 0
+      InRange x = (pos 0 ≤ℤ x) × (x ≤ℤ greatest-outstanding)
+
+      opening : (k : ℕ) → i + k ≤ Y t → R t i k ≡ entry (t .openings) i
+      opening k = R-is-opening (ok .cut .most) (ok .payment) (ok .adjustment) i k p
+
+      go : Dec (Y t ≤ i + k) → Dec (1 ≤ k) → InRange (R t i k)
+      go (yes known) (yes q) = ok .outstanding i k p q h known
+      go (yes known) (no q) =
+          let first : 0 ≡ k = omega arith in
+          subst (λ (x : ℕ). InRange (R t i x)) first
+          (subst InRange (sym (later-row-starts-from-0 (ok .lengths .openings) i (omega arith))) (leZ-yes tt, leZ-yes tt))
+      go (no unknown) q =
+          subst InRange (opening (Y t - i) (omega arith) ∙ sym (opening k (omega arith)))
+          (ok .outstanding i (Y t - i) p (omega arith) (omega (arith, ok .cut .most)) (omega arith))
 
 -- ---- "Accident year 1 has nothing projected: its paid reserve is 0, its incurred reserve and closing both R(1, n) × 1,000,000"
 

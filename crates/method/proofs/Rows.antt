@@ -1,5 +1,5 @@
 -- A row handed back is as long as its accident year has seen cells, and holds their figures in order.
-use mathlib.Core.Path.{_≡_, sym, ap, _∙_}
+use mathlib.Core.Path.{_≡_, refl, sym, ap, _∙_}
 use mathlib.Core.List.{List}
 use Prim.Native.Nat.{ℕ, suc, _+_, _-_, _≤_, _<_}
 use native.Mathlib.Omega.{arith}
@@ -20,10 +20,10 @@ use Rattle.method.proofs.Positions.{cell-at, row-inside}
 -- ---- Row r + 1 of a list of m rows, of m, m − 1, … cells
 
 module _ (m r : ℕ) (xs : List ℤ) (h : r < m) (long : length xs ≡ amounts-length m) where
-  part-length : length (take (m - r) (drop (cells-before m r) xs)) ≡ m - r
+  pub part-length : length (take (m - r) (drop (cells-before m r) xs)) ≡ m - r
   part-length = length-take-le (m - r) (drop (cells-before m r) xs) (omega (arith, length-drop (cells-before m r) xs, row-inside m r h))
 
-  part-holds : (j : ℕ) → r + j < m → getD (take (m - r) (drop (cells-before m r) xs)) j (pos 0) ≡ cell m xs (suc r) (suc j)
+  pub part-holds : (j : ℕ) → r + j < m → getD (take (m - r) (drop (cells-before m r) xs)) j (pos 0) ≡ cell m xs (suc r) (suc j)
   part-holds j l =
       getD-take (m - r) (drop (cells-before m r) xs) j (pos 0) (omega arith)
       ∙ getD-drop (cells-before m r) xs j (pos 0)
@@ -36,6 +36,7 @@ module _ (years : ℤ) (payment-list adjustment-list : List ℤ) (accident-year 
     pub years-right : YearsInRange years
     pub payments-length : length payment-list ≡ amounts-length (natAbs years)
     pub adjustments-length : length adjustment-list ≡ amounts-length (natAbs years)
+    pub counted : accident-year ≡ pos (natAbs accident-year)
     pub first : 1 ≤ natAbs accident-year
     pub last : natAbs accident-year ≤ natAbs years
 
@@ -48,17 +49,18 @@ module _ (years : ℤ) (payment-list adjustment-list : List ℤ) (accident-year 
       let both = and-true (eqb (length payment-list) (amounts-length (natAbs years))) (eqb (length adjustment-list) (amounts-length (natAbs years)))
       (lengths-accepted (both-lengths-right years payment-list adjustment-list accident-year) q₃) in
       let range = from-to-true (pos 1) years accident-year (ask-accepted (accident-year-in-range years accident-year) 10 nowhere q₁₀) in
-      let counts : (1 ≤ natAbs accident-year) × (natAbs accident-year ≤ natAbs years) = count years accident-year (y .counted) (range .0) (range .1) in
+      let counts : (accident-year ≡ pos (natAbs accident-year)) × (1 ≤ natAbs accident-year) × (natAbs accident-year ≤ natAbs years) = count years accident-year (y .counted) (range .0) (range .1) in
       record {
         years-right = y;
         payments-length = eqb-true (length payment-list) (amounts-length (natAbs years)) (both .0);
         adjustments-length = eqb-true (length adjustment-list) (amounts-length (natAbs years)) (both .1);
-        first = counts .0;
-        last = counts .1;
+        counted = counts .0;
+        first = counts .1;
+        last = counts .2;
       }
     where
-      count : (n i : ℤ) → n ≡ pos (natAbs n) → pos 1 ≤ℤ i → i ≤ℤ n → (1 ≤ natAbs i) × (natAbs i ≤ natAbs n)
-      count (pos m) (pos a) y p q = omega (arith, integers)
+      count : (n i : ℤ) → n ≡ pos (natAbs n) → pos 1 ≤ℤ i → i ≤ℤ n → (i ≡ pos (natAbs i)) × (1 ≤ natAbs i) × (natAbs i ≤ natAbs n)
+      count (pos m) (pos a) y p q = (refl, omega (arith, integers), omega (arith, integers))
       count (pos m) (negsuc a) y p q = absurd (p .le)
       count (negsuc m) i y p q = absurd (omega (arith, integers))
 

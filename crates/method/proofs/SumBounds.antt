@@ -9,20 +9,12 @@ use lib.Signed.{_≤ℤ_, ≤ℤ-refl}
 use Rattle.integers.proofs.LinearFacts.{integers}
 use Rattle.integers.proofs.Order.{*ℤ-nonneg, natAbs-by, natAbs-≤, natAbs-*ℤ-≤}
 use Rattle.integers.proofs.RingSolver.{con}
-use Rattle.method.specs.Limits.{most-years, greatest-weight, greatest-amount, greatest-outstanding}
+use Rattle.method.specs.Limits.{most-years, greatest-weight, greatest-amount, greatest-outstanding, greatest-term, greatest-sum}
 use Rattle.method.specs.Counting.{sum-to}
 use Rattle.method.specs.Triangle.{Triangle, n, Y, S, T, w}
 use Rattle.method.specs.Outstandings.{Sums, R, sums}
 use Rattle.method.proofs.QuestionFacts.{Observed}
 use Rattle.method.proofs.Sums.{sum-nonneg, sum-natAbs, sums-combined}
-
--- the largest weighted amount or outstanding: a weight of 100 times 1,000,000,000
-abbrev pub greatest-term : ℕ
-greatest-term = natAbs (greatest-weight *ℤ greatest-amount)
-
--- and the sum of one for each accident year but the youngest, of the most years: 3,100,000,000,000
-abbrev pub greatest-sum : ℕ
-greatest-sum = (natAbs most-years - 1) * greatest-term
 
 -- the sums of a year as the projection takes them
 pub record SumsInRange (s : Sums) : Type 0 where

@@ -1,6 +1,6 @@
 -- Sums that count up: one more row, signs, sizes, and three weighted sums as one.
-use mathlib.Core.Path.{_≡_, refl, ap, _∙_}
-use Prim.Native.Nat.{ℕ, zero, suc, _*_, _≤_}
+use mathlib.Core.Path.{_≡_, refl, ap, ap₂, _∙_}
+use Prim.Native.Nat.{ℕ, zero, suc, _*_, _≤_, _<_}
 use native.Mathlib.Nat.{suc-mul}
 use native.Mathlib.Omega.{arith}
 use lib.IntN.{ℤ, pos, _+ℤ_, _-ℤ_, _*ℤ_, natAbs}
@@ -16,6 +16,11 @@ sum-none f = refl
 pub sum-more : (m : ℕ) (f : ℕ → ℤ) → sum-to (suc m) f ≡ sum-to m f +ℤ f (suc m)
 unfolding up-to
 sum-more m f = refl
+
+pub sum-same : (m : ℕ) (f g : ℕ → ℤ) → ((j : ℕ) → j < m → f (suc j) ≡ g (suc j)) → sum-to m f ≡ sum-to m g
+unfolding up-to
+sum-same zero f g h = refl
+sum-same (suc m) f g h = ap₂ _+ℤ_ (sum-same m f g (λ j l. h j (omega arith))) (h m (omega arith))
 
 pub sum-nonneg : (m : ℕ) (f : ℕ → ℤ) → ((j : ℕ) → 1 ≤ j → j ≤ m → pos 0 ≤ℤ f j) → pos 0 ≤ℤ sum-to m f
 unfolding up-to

@@ -7,7 +7,7 @@ use Rattle.method.specs.Triangle.{Triangle}
 use Rattle.method.specs.ProjectedYear.{future, reserves}
 use Rattle.method.specs.Questions.{Place, Verdict, accepted, refused, questions, lengths-right}
 use Rattle.method.specs.Answers.{filled, answer}
-use Rattle.method.proofs.QuestionFacts.{AllLengths, lengths-right-true, lists-right}
+use Rattle.method.proofs.QuestionFacts.{AllLengths, lengths-right-true, lists-right, inputs-accepted}
 use Rattle.method.proofs.Lists.{future-has-length, reserves-has-length}
 
 pub filled-verdict : (t : Triangle) (future-room reserves-room : ℕ) (v : Verdict) → filled t future-room reserves-room v .verdict ≡ v
@@ -32,7 +32,7 @@ module _ (t : Triangle) (f r : ℕ) where
   filled-lengths : (v : Verdict) → questions t (lengths-right t f r) ≡ v → (length (filled t f r v .future) ≡ f) × (length (filled t f r v .reserves) ≡ r)
   unfolding filled
   filled-lengths accepted e =
-      let l : AllLengths t f r = lengths-right-true t f r (lists-right t (lengths-right t f r) e) in
+      let l : AllLengths t f r = lengths-right-true t f r (lists-right t (lengths-right t f r) (inputs-accepted t (lengths-right t f r) e)) in
       (future-has-length t ∙ sym (l .future), reserves-has-length t ∙ sym (l .reserves))
   filled-lengths (refused question p) e = (length-replicate f (pos 0), length-replicate r (pos 0))
 

@@ -1,5 +1,6 @@
 -- The limits, the unit and the allowances of rounding of document 01, each named once.
-use lib.IntN.{ℤ, pos, _*ℤ_}
+use Prim.Native.Nat.{ℕ, _*_, _-_}
+use lib.IntN.{ℤ, pos, _*ℤ_, natAbs}
 use Rattle.integers.specs.Fraction.{Fraction, _over_}
 
 -- Question 1.
@@ -28,6 +29,14 @@ one-unit = pos 1_000_000
 -- Question 9: the size of a projected figure, in millionths.
 abbrev pub greatest-figure : ℤ
 greatest-figure = pos 10_000_000_000 *ℤ one-unit
+
+-- The size of P, Q or D at most: one term for each accident year but the youngest, each a weight times an amount.
+-- Document 01 does not print it; it follows from the limits above.
+abbrev pub greatest-term : ℕ
+greatest-term = natAbs (greatest-weight *ℤ greatest-amount)
+
+abbrev pub greatest-sum : ℕ
+greatest-sum = (natAbs most-years - 1) * greatest-term
 
 -- What rounding adds to an allowance, in millionths: one half for a share, and 1 for the outstanding, which two shares move.
 abbrev pub share-rounding : Fraction

@@ -72,17 +72,25 @@ is-zero x = eqb (natAbs x) 0
 unfoldable pub years-in-range : ℤ → Bool
 years-in-range years = from-to fewest-years most-years years
 
+-- of the cut, for n from question 1
+unfoldable pub cut-in-range : ℤ → ℤ → Bool
+cut-in-range years cut = from-to (pos 1) (years -ℤ pos 1) cut
+
 unfoldable pub figures-in-range : Movement → Bool
 figures-in-range m =
     leZ (size (m .payment)) greatest-figure
     && leZ (size (m .adjustment)) greatest-figure
     && leZ (size (m .outstanding)) greatest-figure
 
--- ---- Questions 1 and 3, which a row's call asks too
+-- ---- Questions 1 to 3; a row's call asks 1 and 3 too
 
 -- the number of years
 unfoldable pub question-1 : ℤ → Verdict
 question-1 years = ask (years-in-range years) 1 nowhere
+
+-- the cut
+unfoldable pub question-2 : ℤ → ℤ → Verdict
+question-2 years cut = ask (cut-in-range years cut) 2 nowhere
 
 -- whether every list that the call lends has its length
 unfoldable pub question-3 : Bool → Verdict
@@ -91,9 +99,6 @@ question-3 right = ask right 3 nowhere
 -- ---- The tests of a triangle
 
 module _ (t : Triangle) where
-  unfoldable pub cut-in-range : Bool
-  cut-in-range = from-to (pos 1) (t .years -ℤ pos 1) (t .cut)
-
   -- the four lists that are read
   unfoldable pub input-lengths-right : Bool
   input-lengths-right =
@@ -132,9 +137,6 @@ module _ (t : Triangle) where
 
   -- ---- The questions on a triangle
 
-  unfoldable pub question-2 : Verdict
-  question-2 = ask cut-in-range 2 nowhere
-
   unfoldable pub question-4 : Verdict
   question-4 = each-cell (n t - 1) 4 weight-in-range
 
@@ -159,18 +161,22 @@ module _ (t : Triangle) where
   unfoldable pub question-9 : Verdict
   question-9 = first-to (n t) question-9-of-year
 
-  -- In the order in which they are asked. A call for a single cell lends no answer lists, so question 3 is given its answer.
+  -- ---- In the order in which they are asked
+
+  -- of the lists, each whole
+  unfoldable pub list-questions : Verdict
+  list-questions = question-4 then question-5 then question-6 then question-7
+
+  -- of all that is lent; a call for a single cell lends no answer lists, so question 3 is given its answer
+  unfoldable pub input-questions : Bool → Verdict
+  input-questions right = question-1 (t .years) then question-2 (t .years) (t .cut) then question-3 right then list-questions
+
+  -- all that is asked before a year is projected
+  unfoldable pub observed-questions : Bool → Verdict
+  observed-questions right = input-questions right then question-8
+
   unfoldable pub questions : Bool → Verdict
-  questions right =
-      question-1 (t .years)
-      then question-2
-      then question-3 right
-      then question-4
-      then question-5
-      then question-6
-      then question-7
-      then question-8
-      then question-9
+  questions right = observed-questions right then question-9
 
 -- ---- Question 10, of a single cell and of a row
 
