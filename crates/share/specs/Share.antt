@@ -1,0 +1,29 @@
+-- What a share is asked of, and its answer.
+use Prim.Native.Nat.{ℕ, _≤_}
+use mathlib.Core.Bool.{Bool, true, false}
+use lib.IntN.{ℤ, pos, natAbs}
+use lib.Signed.{leZ, _≤ℤ_, _<ℤ_}
+use Rattle.integers.specs.Fraction.{size}
+use Rattle.method.specs.Limits.{greatest-figure, greatest-sum}
+use Rattle.share.specs.declared.Share.{Share}
+use Rattle.share.specs.declared.Share.the-variants.{Rounded, TooLarge}
+
+-- An outstanding within the limit of question 9, P or Q, and D, which question 8 has found above 0.
+pub record ShareInput (outstanding part exposure : ℤ) : Type 0 where
+  pub outstanding-nonneg : pos 0 ≤ℤ outstanding
+  pub outstanding-most : outstanding ≤ℤ greatest-figure
+  pub part-size : natAbs part ≤ greatest-sum
+  pub exposure-positive : pos 0 <ℤ exposure
+  pub exposure-most : exposure ≤ℤ pos greatest-sum
+
+-- The limit of question 9, as a natural.
+abbrev pub greatest-size : ℕ
+greatest-size = natAbs greatest-figure
+
+abbrev kept : Bool → ℤ → Share
+kept true x = Rounded (record { 0 = x })
+kept false x = TooLarge
+
+-- A share, where its size is within the limit of question 9.
+unfoldable pub answered : ℤ → Share
+answered x = kept (leZ (size x) greatest-figure) x

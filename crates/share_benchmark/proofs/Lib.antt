@@ -1,0 +1,2 @@
+-- The law that the benchmark's call needs.
+pub mod Ranges

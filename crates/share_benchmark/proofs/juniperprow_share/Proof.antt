@@ -1,0 +1,88 @@
+-- The range tests, the share, and its answer.
+use mathlib.Core.Path.{_≡_, sym, ap, _∙_}
+use lib.IntN.{pos, negℤ}
+use mir.Syntax.{w64}
+use mir.Facts.{toZ-ofZ}
+use Rattle.method.specs.Limits.{greatest-figure, greatest-sum}
+use Rattle.share_benchmark.specs.ShareAnswer.{within, as-answer, share-answer}
+use Rattle.share_benchmark.proofs.Ranges.{share-input}
+use borrow.Author.Needs.{needs}
+use Rattle.share_benchmark.proofs.juniperprow_share.Statement.{statement}
+use Rattle.share_benchmark.proofs.juniperprow_share.Tie as tie
+
+in-range-requires : tie.Need-in-range-requires
+in-range-requires c κs = search needs
+
+sub-in-range : tie.Need-sub-in-range
+sub-in-range c = search needs
+
+in-range-requires-2 : tie.Need-in-range-requires-2
+in-range-requires-2 c κs = search needs
+
+in-range-requires-3 : tie.Need-in-range-requires-3
+in-range-requires-3 c κs = search needs
+
+outstanding-test : (c : tie.After-in-range) → within (pos 0) greatest-figure (c .before .args .outstanding) ≡ c .in-range .result
+outstanding-test c = sym (simp (toZ-ofZ {w = w64} (c .before .fits .outstanding)) at (c .in-range .ensures))
+
+part-test : (c : tie.After-in-range2) → within (negℤ (pos greatest-sum)) (pos greatest-sum) (c .before .before .before .args .part) ≡ c .in-range2 .result
+part-test c = sym (simp (toZ-ofZ {w = w64} (c .before .before .before .fits .part)) at (c .in-range2 .ensures))
+
+exposure-test : (c : tie.After-in-range3) → within (pos 1) (pos greatest-sum) (c .before .before .before .before .before .args .exposure) ≡ c .in-range3 .result
+exposure-test c = sym (simp (toZ-ofZ {w = w64} (c .before .before .before .before .before .fits .exposure)) at (c .in-range3 .ensures))
+
+rounded-share-requires : tie.Need-rounded-share-requires
+rounded-share-requires c κs =
+    let fits = c .before .before .before .before .before .before .fits in
+    simp (toZ-ofZ (fits .outstanding), toZ-ofZ (fits .part), toZ-ofZ (fits .exposure)) (share-input _ _ _
+    (outstanding-test (c .before .before .before .before .before) ∙ c .before .before .before .before .if1 .taken)
+    (part-test (c .before .before .before) ∙ c .before .before .if2 .taken)
+    (exposure-test (c .before) ∙ c .if3 .taken))
+
+told-requires : tie.Need-told-requires
+told-requires c κs = search needs
+
+returns : tie.Need-returns
+unfolding share-answer
+returns c =
+    let start = c .before .before .before .before .before .before .before .before in
+    let answer = simp (toZ-ofZ {w = w64} (start .fits .outstanding), toZ-ofZ {w = w64} (start .fits .part), toZ-ofZ {w = w64} (start .fits .exposure))
+    at (c .before .rounded-share .ensures) in
+    rw (
+      outstanding-test (c .before .before .before .before .before .before .before) ∙ c .before .before .before .before .before .before .if1 .taken,
+      part-test (c .before .before .before .before .before) ∙ c .before .before .before .before .if2 .taken,
+      exposure-test (c .before .before .before) ∙ c .before .before .if3 .taken,
+    )
+    (c .told .ensures ∙ ap as-answer answer)
+
+returns-2 : tie.Need-returns-2
+unfolding share-answer
+returns-2 c =
+    rw (
+      outstanding-test (c .before .before .before .before .before) ∙ c .before .before .before .before .if1 .taken,
+      part-test (c .before .before .before) ∙ c .before .before .if2 .taken,
+      exposure-test (c .before) ∙ c .if3 .left,
+    )
+
+returns-3 : tie.Need-returns-3
+unfolding share-answer
+returns-3 c = rw (outstanding-test (c .before .before .before) ∙ c .before .before .if1 .taken, part-test (c .before) ∙ c .if2 .left)
+
+returns-4 : tie.Need-returns-4
+unfolding share-answer
+returns-4 c = rw (outstanding-test (c .before) ∙ c .if1 .left)
+
+pub juniperprow-share-spec : {M : Type 1} → statement M
+juniperprow-share-spec =
+    tie.close
+    (tie.spec
+    in-range-requires
+    sub-in-range
+    in-range-requires-2
+    in-range-requires-3
+    rounded-share-requires
+    told-requires
+    returns
+    returns-2
+    returns-3
+    returns-4)

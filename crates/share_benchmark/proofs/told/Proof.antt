@@ -1,0 +1,30 @@
+-- By the case of the share.
+use borrow.Author.Needs.{needs}
+use mathlib.Core.Path.{_≡_}
+use mir.Syntax.{w64}
+use mir.Val.{SFits}
+use mir.Facts.{toZ-ofZ}
+use Rattle.share.specs.declared.Share.the-variants.{Rounded, TooLarge}
+use Rattle.share_benchmark.proofs.told.Statement.{statement}
+use Rattle.share_benchmark.proofs.told.Tie as tie
+
+enum-known-share : tie.Need-enum-known-share
+enum-known-share c = search needs
+
+enum-told : tie.Need-enum-told
+enum-told c = search needs
+
+returns : tie.Need-returns
+returns c =
+    let value = c .before .before .share .given .0 .0 .0 in
+    let fits : SFits w64 value = record { sfits = c .struct-told .given .0 .1 } in
+    let same : c .before .before .before .before .args .share ≡ Rounded (record { 0 = value }) = cc in
+    rw (toZ-ofZ {w = w64} fits, same)
+
+returns-2 : tie.Need-returns-2
+returns-2 c =
+    let same : c .before .before .args .share ≡ TooLarge = cc in
+    rw same
+
+pub told-spec : {M : Type 1} → statement M
+told-spec = tie.close (tie.spec enum-known-share enum-told returns returns-2)

@@ -1,0 +1,2 @@
+-- What the benchmark's call answers.
+pub mod ShareAnswer

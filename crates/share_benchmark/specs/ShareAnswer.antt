@@ -1,0 +1,31 @@
+-- What the benchmark's call answers, for any three numbers.
+use mathlib.Core.Bool.{Bool, true, false, not, _&&_}
+use lib.IntN.{ℤ, pos, negℤ}
+use lib.Signed.{ltZ}
+use Rattle.method.specs.Limits.{greatest-figure, greatest-sum}
+use Rattle.method.specs.ProjectedYear.{share}
+use Rattle.share.specs.Share.{answered}
+use Rattle.share.specs.declared.Share.{Share}
+use Rattle.share.specs.declared.Share.the-variants.{Rounded, TooLarge}
+use Rattle.share_benchmark.specs.declared.ShareAnswer.{ShareAnswer}
+
+-- not below the least and not above the most
+abbrev pub within : ℤ → ℤ → ℤ → Bool
+within least most x = not (ltZ x least) && not (ltZ most x)
+
+abbrev pub as-answer : Share → ShareAnswer
+as-answer (Rounded x) = record { outcome = pos 0; value = x .0 }
+as-answer TooLarge = record { outcome = pos 1; value = pos 0 }
+
+-- the arguments that a share is asked of
+abbrev pub in-limits : ℤ → ℤ → ℤ → Bool
+in-limits outstanding part exposure =
+    within (pos 0) greatest-figure outstanding
+    && within (negℤ (pos greatest-sum)) (pos greatest-sum) part
+    && within (pos 1) (pos greatest-sum) exposure
+
+unfoldable pub share-answer : ℤ → ℤ → ℤ → ShareAnswer
+share-answer outstanding part exposure = elim (in-limits outstanding part exposure) [
+  | true ↦ as-answer (answered (share outstanding part exposure))
+  | false ↦ record { outcome = pos 2; value = pos 0 }
+]
