@@ -1,0 +1,51 @@
+-- The triangle of a call once questions 1 to 3 have accepted: n and Y as counts, and every list of its length.
+use mathlib.Core.Path.{_≡_, sym, ap₂, subst}
+use mathlib.Core.Bool.{true}
+use mathlib.Core.List.{List}
+use Prim.Native.Nat.{_≤_}
+use native.Mathlib.Omega.{arith}
+use lib.Dec.{T, eqb}
+use lib.IntN.{ℤ, pos, natAbs}
+use lib.Signed.{nonNeg}
+use mir.Syntax.{w64}
+use mir.Val.{Fits}
+use Rattle.method.specs.Triangle.{Triangle, n, reserves-length}
+use Rattle.method.specs.Questions.{input-lengths-right, lengths-right}
+use Rattle.method.proofs.Tests.{and-true}
+use Rattle.method.proofs.QuestionFacts.{YearsInRange, CutInRange, InputLengths, input-lengths-right-true, lengths-right-true}
+use Rattle.questions.specs.declared.inputs.AnswerLists.{AnswerLists}
+use Rattle.questions.specs.declared.inputs.AnswerLists.the-variants.{NotLent, OfLengths}
+use Rattle.questions.specs.Lent.{lent, counted, lists-right, ListsLent}
+
+-- a count as the code casts it
+pub count-fits : (z : ℤ) → z ≡ pos (natAbs z) → natAbs z ≤ 32 → T (nonNeg z) × Fits w64 (natAbs z)
+count-fits z e h = (subst (λ (x : ℤ). T (nonNeg x)) (sym e) tt, record { fits = omega arith })
+
+-- where question 3 was answered yes
+pub lists-have-lengths : (t : Triangle) (answers : AnswerLists) → lists-right t answers ≡ true → InputLengths t
+lists-have-lengths t NotLent e = input-lengths-right-true t e
+lists-have-lengths t (OfLengths future reserves) e = lengths-right-true t future reserves e .inputs
+
+pub inputs-right : (t : Triangle) (answers : AnswerLists) → lists-right t answers ≡ true → input-lengths-right t ≡ true
+unfolding lengths-right
+inputs-right t NotLent e = e
+inputs-right t (OfLengths future reserves) e = and-true (input-lengths-right t) _ (and-true _ (eqb reserves (reserves-length (n t))) e .0) .0
+
+module _ (years cut : ℤ) (payments adjustments weights openings : List ℤ) (y : YearsInRange years) (c : CutInRange cut (natAbs years)) where
+  pub counted-is : lent years cut payments adjustments weights openings ≡ counted (natAbs years) (natAbs cut) payments adjustments weights openings
+  counted-is = ap₂ (λ (a b : ℤ). lent a b payments adjustments weights openings) (y .counted) (c .counted)
+
+  pub lists-lent : (answers : AnswerLists) → lists-right (counted (natAbs years) (natAbs cut) payments adjustments weights openings) answers ≡ true
+      → ListsLent (natAbs years) (natAbs cut) payments adjustments weights openings
+  lists-lent answers e =
+      let l = lists-have-lengths (counted (natAbs years) (natAbs cut) payments adjustments weights openings) answers e in
+      record {
+        fewest = y .fewest;
+        most = y .most;
+        cut-least = c .least;
+        cut-most = c .most;
+        payments-length = l .payments;
+        adjustments-length = l .adjustments;
+        weights-length-right = l .weights;
+        openings-length-right = l .openings;
+      }

@@ -1,0 +1,139 @@
+-- The outstandings of one row as a loop makes them: each from the one before, within 64 bits, and tested where it is known.
+use mathlib.Core.Path.{_≡_, refl, sym, ap, _∙_, subst}
+use mathlib.Core.Logic.{_⊎_, inl, inr}
+use mathlib.Core.Bool.{Bool, true, false}
+use mathlib.Core.List.{List}
+use Prim.Native.Nat.{ℕ, suc, _+_, _≤_, _<_}
+use native.Mathlib.Numerals.{add-one}
+use native.Mathlib.Decide.{decLe}
+use native.Mathlib.Omega.{arith}
+use lib.Dec.{leb}
+use lib.IntN.{ℤ, pos, negℤ, _+ℤ_, _-ℤ_, natAbs}
+use lib.ListN.{length, getD}
+use mir.Syntax.{w64}
+use mir.Val.{SFits}
+use Rattle.integers.proofs.Difference.{fits→parts}
+use Rattle.integers.proofs.RingSolver.{con, _:+_, _:-_}
+use Rattle.integers.proofs.LinearFacts.{integers, fits-by}
+use Rattle.integers.proofs.Order.{natAbs-parts, natAbs-by, natAbs-≤}
+use Rattle.method.specs.Limits.{greatest-amount, greatest-outstanding}
+use Rattle.method.specs.Triangle.{entry}
+use Rattle.method.specs.Questions.{accepted, refused, at, first-to, from-to, is-zero}
+use Rattle.method.proofs.Tests.{and-true, unless-true, from-to-true, is-zero-true, leb-true}
+use Rattle.method.proofs.FirstRefusal.{ask-yes, ask-no, ask-accepted, first-none, first-goes-on, first-stops, first-accepted}
+use Rattle.questions.specs.declared.cells.CellTest.the-variants.{AmountRight}
+use Rattle.questions.specs.Cells.{empty-where-missing, cell-of-row, row-of-list}
+use Rattle.questions.specs.Observed.{in-range-where-known, row-outstanding, year-of-row, row-of-outstandings, Movable, RowRight}
+
+-- ---- What question 5 leaves of a row
+
+pub record AmountInRow (cut i : ℕ) (row : List ℤ) (j : ℕ) : Type 0 where
+  pub in-range : natAbs (getD row j (pos 0)) ≤ natAbs greatest-amount
+  pub zero-where-missing : i + (j + 1) ≤ cut → getD row j (pos 0) ≡ pos 0
+
+pub amount-in-row : (cut i : ℕ) (row : List ℤ) → row-of-list AmountRight cut i row ≡ accepted → (j : ℕ) → j < length row → AmountInRow cut i row j
+unfolding row-of-list cell-of-row entry
+amount-in-row cut i row e j l =
+    let x : ℤ = getD row j (pos 0) in
+    let asked : cell-of-row AmountRight cut i row (suc j) ≡ accepted = first-accepted (length row) (cell-of-row AmountRight cut i row) e (suc j) (omega arith) (omega arith) in
+    let both = and-true (from-to (negℤ greatest-amount) greatest-amount x) (empty-where-missing cut i (suc j) x) (ask-accepted _ 5 (at i (suc j)) asked) in
+    record {
+      in-range = natAbs-≤ x (natAbs greatest-amount) .1 (from-to-true (negℤ greatest-amount) greatest-amount x (both .0));
+      zero-where-missing = λ h. is-zero-true x (unless-true (leb (i + suc j) cut) (is-zero x) (both .1) (leb-true (i + suc j) cut (omega arith)));
+    }
+
+-- ---- A movement within 64 bits
+
+pub less-payment-fits : (outstanding payment adjustment : ℤ) → SFits w64 outstanding → Movable outstanding payment adjustment → SFits w64 (outstanding -ℤ payment)
+less-payment-fits o s t f m = go (m .in-range-or-unmoved)
+  where
+    go : (natAbs o ≤ natAbs greatest-outstanding) ⊎ ((s ≡ pos 0) × (t ≡ pos 0)) → SFits w64 (o -ℤ s)
+    go (inl h) = fits-by w64 (con o :- con s) (omega (arith, m .payment-size, natAbs-parts o, natAbs-parts s))
+    go (inr h) = fits-by w64 (con o :- con s) (omega (arith, integers, fits→parts f))
+
+pub next-fits : (outstanding payment adjustment : ℤ) → SFits w64 outstanding → Movable outstanding payment adjustment → SFits w64 (outstanding -ℤ payment +ℤ adjustment)
+next-fits o s t f m = go (m .in-range-or-unmoved)
+  where
+    go : (natAbs o ≤ natAbs greatest-outstanding) ⊎ ((s ≡ pos 0) × (t ≡ pos 0)) → SFits w64 (o -ℤ s +ℤ t)
+    go (inl h) = fits-by w64 (con o :- con s :+ con t) (omega (arith, m .payment-size, m .adjustment-size, natAbs-parts o, natAbs-parts s, natAbs-parts t))
+    go (inr h) = fits-by w64 (con o :- con s :+ con t) (omega (arith, integers, fits→parts f))
+
+-- ---- The loop over a row
+
+-- after j years
+pub record Rolled (cut i : ℕ) (opening : ℤ) (payments adjustments : List ℤ) (outstanding : ℤ) (j : ℕ) : Type 0 where
+  pub years : j ≤ length payments
+  pub is : outstanding ≡ row-outstanding opening payments adjustments j
+  pub in-range-or-unknown : (natAbs outstanding ≤ natAbs greatest-outstanding) ⊎ (i + j < cut)
+  pub passed : first-to j (year-of-row cut i opening payments adjustments) ≡ accepted
+
+module _ (cut i : ℕ) (opening : ℤ) (payments adjustments : List ℤ) (right : RowRight cut i opening payments adjustments) where
+  pub before-first-year : Rolled cut i opening payments adjustments opening 0
+  unfolding row-outstanding
+  before-first-year = record {
+    years = omega arith;
+    is = refl;
+    in-range-or-unknown = go (decLe cut i);
+    passed = first-none (year-of-row cut i opening payments adjustments);
+  }
+    where
+      go : Dec (cut ≤ i) → (natAbs opening ≤ natAbs greatest-outstanding) ⊎ (i + 0 < cut)
+      go (yes h) = inl (subst (λ (x : ℤ). natAbs x ≤ natAbs greatest-outstanding) (sym (right .no-opening h)) (omega arith))
+      go (no h) = inr (omega arith)
+
+  module _ (outstanding : ℤ) (j : ℕ) (s : Rolled cut i opening payments adjustments outstanding j) where
+    module _ (l : j < length payments) where
+      paid : AmountInRow cut i payments j
+      paid = amount-in-row cut i payments (right .payments-right) j l
+
+      adjusted : AmountInRow cut i adjustments j
+      adjusted = amount-in-row cut i adjustments (right .adjustments-right) j (omega (arith, right .same-length))
+
+      pub movable : Movable outstanding (getD payments j (pos 0)) (getD adjustments j (pos 0))
+      movable = record {
+        payment-size = paid .in-range;
+        adjustment-size = adjusted .in-range;
+        in-range-or-unmoved = go (s .in-range-or-unknown);
+      }
+        where
+          go : (natAbs outstanding ≤ natAbs greatest-outstanding) ⊎ (i + j < cut)
+              → (natAbs outstanding ≤ natAbs greatest-outstanding) ⊎ ((getD payments j (pos 0) ≡ pos 0) × (getD adjustments j (pos 0) ≡ pos 0))
+          go (inl h) = inl h
+          go (inr h) = inr (paid .zero-where-missing (omega arith), adjusted .zero-where-missing (omega arith))
+
+      module _ (next : ℤ) (e : next ≡ outstanding -ℤ getD payments j (pos 0) +ℤ getD adjustments j (pos 0)) where
+        next-is : next ≡ row-outstanding opening payments adjustments (j + 1)
+        unfolding row-outstanding entry
+        next-is = rw add-one (e ∙ ap (λ o. o -ℤ getD payments j (pos 0) +ℤ getD adjustments j (pos 0)) (s .is))
+
+        asked-of : (b : Bool) → in-range-where-known cut i (j + 1) next ≡ b
+            → in-range-where-known cut i (j + 1) (row-outstanding opening payments adjustments (j + 1)) ≡ b
+        asked-of b = subst (λ (x : ℤ). in-range-where-known cut i (j + 1) x ≡ b) next-is
+
+        pub next-year-passed : in-range-where-known cut i (j + 1) next ≡ true → Rolled cut i opening payments adjustments next (j + 1)
+        unfolding year-of-row
+        next-year-passed p = record {
+          years = omega arith;
+          is = next-is;
+          in-range-or-unknown = go (decLe cut (i + (j + 1)));
+          passed = first-goes-on j (year-of-row cut i opening payments adjustments) (s .passed) ∙ ask-yes _ 6 (at i (j + 1)) (asked-of true p);
+        }
+          where
+            go : Dec (cut ≤ i + (j + 1)) → (natAbs next ≤ natAbs greatest-outstanding) ⊎ (i + (j + 1) < cut)
+            go (yes h) =
+                let range = from-to-true (pos 0) greatest-outstanding next
+                (unless-true (leb cut (i + (j + 1))) (from-to (pos 0) greatest-outstanding next) p (leb-true cut (i + (j + 1)) h)) in
+                inl (natAbs-by (con next) (natAbs greatest-outstanding) (omega (arith, integers, range)))
+            go (no h) = inr (omega arith)
+
+        pub next-year-refused : in-range-where-known cut i (j + 1) next ≡ false
+            → row-of-outstandings cut i opening payments adjustments ≡ refused 6 (at i (j + 1))
+        unfolding year-of-row row-of-outstandings
+        next-year-refused p =
+            first-stops j (length payments) (year-of-row cut i opening payments adjustments) (s .passed) (ask-no _ 6 (at i (j + 1)) (asked-of false p)) l
+
+    pub all-years-passed : length payments ≤ j → row-of-outstandings cut i opening payments adjustments ≡ accepted
+    unfolding row-of-outstandings
+    all-years-passed l =
+        let e : length payments ≡ j = omega (arith, s .years) in
+        ap (λ (x : ℕ). first-to x (year-of-row cut i opening payments adjustments)) e ∙ s .passed

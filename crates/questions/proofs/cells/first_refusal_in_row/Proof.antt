@@ -1,0 +1,98 @@
+-- A scan of one row, cell by cell.
+use mathlib.Core.Path.{_≡_, ap, sym, _∙_}
+use Prim.Native.Nat.{ℕ, _+_, _-_, _≤_}
+use native.Mathlib.Omega.{arith}
+use lib.IntN.{ℤ, pos}
+use lib.ListN.{length, getD}
+use mir.Syntax.{w64}
+use mir.Facts.{toZ-ofZ}
+use Rattle.method.specs.Questions.{accepted, refused, at, first-to}
+use Rattle.method.proofs.FirstRefusal.{first-none, first-goes-on, first-stops}
+use Rattle.questions.specs.Cells.{passes, cell-of-row, row-of-list}
+use Rattle.questions.proofs.CellTests.{cell-passed, cell-refused}
+use borrow.Author.Needs.{needs}
+use borrow.Author.Tests.{not-true, not-false}
+use native.Mathlib.Omega.{arith}
+use Rattle.questions.proofs.cells.first_refusal_in_row.Statement.{statement}
+use Rattle.questions.proofs.cells.first_refusal_in_row.Tie as tie
+
+abbrev Inv-loop : tie.InvT-loop
+Inv-loop test cut i row j₀ j = (j ≤ length row) × (first-to j (cell-of-row test cut i row) ≡ accepted)
+
+abbrev μ-loop : tie.MeasureT-loop
+μ-loop test cut i row j₀ j = length row - j
+
+loop-holds : tie.Need-loop-holds Inv-loop μ-loop
+loop-holds c = (search needs, first-none _)
+
+add-cell-passes : tie.Need-add-cell-passes Inv-loop μ-loop
+add-cell-passes c = search needs
+
+mul-cell-passes : tie.Need-mul-cell-passes Inv-loop μ-loop
+mul-cell-passes c = search needs
+
+shared-slice-copy-out-cell-passes : tie.Need-shared-slice-copy-out-cell-passes Inv-loop μ-loop
+shared-slice-copy-out-cell-passes c = search needs
+
+cell-passes-requires : tie.Need-cell-passes-requires Inv-loop μ-loop
+cell-passes-requires c κs = search needs
+
+-- the test of the cell at hand
+tested : (c : tie.After-cell-passes Inv-loop μ-loop) → let s = c .before .before .before .before .args in let j = c .before .before .before .loop .j in
+    c .cell-passes .result ≡ passes (s .test) (s .cut) (s .i) (j + 1) (getD (s .row .now) j (pos 0))
+tested c =
+    let x : ℤ = getD (c .before .before .before .before .args .row .now) (c .before .before .before .loop .j) (pos 0) in
+    simp (toZ-ofZ {w = w64} {z = x} (record { sfits = c .before .cell-passes-arg .given })) at (c .cell-passes .ensures)
+
+number-requires : tie.Need-number-requires Inv-loop μ-loop
+number-requires c κs = search needs
+
+add-refusal-at : tie.Need-add-refusal-at Inv-loop μ-loop
+add-refusal-at c = search needs
+
+refusal-at-requires : tie.Need-refusal-at-requires Inv-loop μ-loop
+refusal-at-requires c κs = search needs
+
+returns : tie.Need-returns Inv-loop μ-loop
+unfolding row-of-list
+returns c =
+    let t = tested (c .before .before .before) in
+    let l = c .before .before .before .before .before .before .loop in
+    c .refusal-at .ensures ∙ sym (first-stops (l .j) _ _ (l .inv .1) (cell-refused _ _ _ _ _ (sym t ∙ not-true _ (c .before .before .if1 .taken)) ∙ ap (λ q. refused q (at (c .before .before .before .before .before .before .before .args .i) (l .j + 1))) (sym (c .before .number .ensures))) (omega arith))
+
+add-j : tie.Need-add-j Inv-loop μ-loop
+add-j c = search needs
+
+loop-less : tie.Need-loop-less Inv-loop μ-loop
+loop-less c = search needs
+
+loop-again : tie.Need-loop-again Inv-loop μ-loop
+loop-again c =
+    let t = tested (c .before) in
+    (search needs, first-goes-on _ _ (c .before .before .before .before .loop .inv .1) ∙ cell-passed _ _ _ _ _ (sym t ∙ not-false _ (c .if1 .left)))
+
+returns-2 : tie.Need-returns-2 Inv-loop μ-loop
+unfolding row-of-list
+returns-2 c =
+    let whole : c .before .loop .j ≡ length (c .before .before .args .row .now) = omega arith in
+    sym (c .before .loop .inv .1) ∙ ap (λ (x : ℕ). first-to x (cell-of-row (c .before .before .args .test) (c .before .before .args .cut) (c .before .before .args .i) (c .before .before .args .row .now))) whole
+
+pub first-refusal-in-row-spec : {M : Type 1} → statement M
+first-refusal-in-row-spec =
+    tie.close
+    (tie.spec
+    Inv-loop
+    μ-loop
+    loop-holds
+    add-cell-passes
+    mul-cell-passes
+    shared-slice-copy-out-cell-passes
+    cell-passes-requires
+    number-requires
+    add-refusal-at
+    refusal-at-requires
+    returns
+    add-j
+    loop-less
+    loop-again
+    returns-2)

@@ -1,0 +1,45 @@
+-- A triangle as a call lends it.
+use mathlib.Core.Path.{_≡_}
+use mathlib.Core.Bool.{Bool}
+use mathlib.Core.List.{List}
+use Prim.Native.Nat.{ℕ, _-_, _≤_, _<_}
+use lib.IntN.{ℤ, pos}
+use lib.ListN.{length, take, drop}
+use Rattle.method.specs.Triangle.{Triangle, amounts-length, weights-length, openings-length, cells-before}
+use Rattle.method.specs.Questions.{input-lengths-right, lengths-right}
+use Rattle.questions.specs.declared.inputs.AnswerLists.{AnswerLists}
+use Rattle.questions.specs.declared.inputs.AnswerLists.the-variants.{NotLent, OfLengths}
+
+abbrev pub lent : ℤ → ℤ → List ℤ → List ℤ → List ℤ → List ℤ → Triangle
+lent years cut payments adjustments weights openings = record {
+  years = years;
+  cut = cut;
+  payments = payments;
+  adjustments = adjustments;
+  weights = weights;
+  openings = openings;
+}
+
+-- with n and Y that questions 1 and 2 have accepted, as counts
+abbrev pub counted : ℕ → ℕ → List ℤ → List ℤ → List ℤ → List ℤ → Triangle
+counted n cut = lent (pos n) (pos cut)
+
+-- the answer to question 3
+abbrev pub lists-right : Triangle → AnswerLists → Bool
+lists-right t NotLent = input-lengths-right t
+lists-right t (OfLengths future reserves) = lengths-right t future reserves
+
+-- row r + 1 of a list whose rows have n, n − 1, … cells
+abbrev pub row-part : ℕ → ℕ → List ℤ → List ℤ
+row-part n r xs = take (n - r) (drop (cells-before n r) xs)
+
+-- what questions 1 to 3 leave
+pub record ListsLent (n cut : ℕ) (payments adjustments weights openings : List ℤ) : Type 0 where
+  pub fewest : 2 ≤ n
+  pub most : n ≤ 32
+  pub cut-least : 1 ≤ cut
+  pub cut-most : cut < n
+  pub payments-length : length payments ≡ amounts-length n
+  pub adjustments-length : length adjustments ≡ amounts-length n
+  pub weights-length-right : length weights ≡ weights-length n
+  pub openings-length-right : length openings ≡ openings-length cut

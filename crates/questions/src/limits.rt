@@ -1,0 +1,18 @@
+// The limits of document 01, each named once.
+
+pub const FEWEST_YEARS: i64 = 2;
+
+pub const MOST_YEARS: i64 = 32;
+
+pub const GREATEST_WEIGHT: i64 = 100;
+
+// Of a payment or an adjustment, in whole units, of either sign.
+pub const GREATEST_AMOUNT: i64 = 1_000_000_000;
+
+// Of an opening or observed outstanding, in whole units.
+pub const GREATEST_OUTSTANDING: i64 = 1_000_000_000;
+
+// Room for the last observed outstanding of every accident year, and for the sums of every development year but the last.
+pub const ACCIDENT_YEARS: usize = 32;
+
+pub const DEVELOPMENT_YEARS: usize = 31;

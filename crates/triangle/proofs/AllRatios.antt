@@ -1,0 +1,141 @@
+-- The ratios of a whole triangle, development year by development year, with the outstandings of the year at hand.
+use mathlib.Core.Path.{_≡_, refl, sym, ap, _∙_}
+use mathlib.Core.List.{List}
+use Prim.Native.Nat.{ℕ, suc, _+_, _-_, _≤_, _<_}
+use native.Mathlib.Numerals.{add-one}
+use native.Mathlib.Decide.{decLe}
+use native.Mathlib.Omega.{arith}
+use lib.IntN.{ℤ, pos, _+ℤ_, _-ℤ_, _*ℤ_, natAbs}
+use lib.ListN.{length, getD, set, replicate, length-set, length-replicate}
+use lib.Seq.{getD-set-same, getD-set-other}
+use lib.Signed.{_≤ℤ_}
+use Rattle.integers.proofs.RingSolver.{con}
+use Rattle.integers.proofs.LinearFacts.{integers}
+use Rattle.integers.proofs.Order.{natAbs-by}
+use Rattle.method.specs.Limits.{greatest-weight, greatest-outstanding}
+use Rattle.method.specs.Triangle.{Triangle, n, S, T, w, entry}
+use Rattle.method.specs.Outstandings.{R, sums}
+use Rattle.method.proofs.QuestionFacts.{Observed}
+use Rattle.method.proofs.Readings.{R-in-range}
+use Rattle.method.proofs.Positions.{entry-at}
+use Rattle.method.proofs.Sums.{sum-same}
+use Rattle.triangle.specs.declared.ratios.Sums.{Sums}
+use Rattle.triangle.specs.Ratios.{sums-of, no-sums, partial-sums, RatiosOf, FirstYear, FirstOutstandings, YearInput, MovedOn}
+use Rattle.triangle.proofs.Blank.{blank}
+use Rattle.triangle.proofs.DevelopmentYear.{same-sums}
+
+-- ---- What questions 1 to 7 leave, as the code wants it
+
+natAbs-in-range : (x : ℤ) → (pos 0 ≤ℤ x) × (x ≤ℤ greatest-outstanding) → natAbs x ≤ natAbs greatest-outstanding
+natAbs-in-range x h = natAbs-by (con x) (natAbs greatest-outstanding) (omega (arith, integers, h))
+
+module _ (t : Triangle) (ok : Observed t) where
+  outstanding-size : (r k : ℕ) → r + k ≤ n t → natAbs (R t (suc r) k) ≤ natAbs greatest-outstanding
+  outstanding-size r k l = natAbs-in-range (R t (suc r) k) (R-in-range t ok (suc r) k (omega arith) (omega arith))
+
+  pub first-year : FirstYear (n t) (t .payments) (t .adjustments) (t .openings)
+  unfolding R
+  first-year = record {
+    most = ok .years .most;
+    payments-length = ok .lengths .payments;
+    adjustments-length = ok .lengths .adjustments;
+    payment-size = λ r l. ok .payment (suc r) 1 (omega arith) (omega arith) (omega arith) .in-range;
+    adjustment-size = λ r l. ok .adjustment (suc r) 1 (omega arith) (omega arith) (omega arith) .in-range;
+    opening-size = λ r l. outstanding-size r 0 (omega arith);
+  }
+
+  pub year-input : (k : ℕ) (outstandings : List ℤ) → 1 ≤ k → k < n t → length outstandings ≡ 32
+      → ((r : ℕ) → r + k ≤ n t → getD outstandings r (pos 0) ≡ R t (suc r) k)
+      → YearInput (n t) k (t .payments) (t .adjustments) (t .weights) outstandings
+  year-input k outstandings p q long e = record {
+    most = ok .years .most;
+    first = p;
+    last = q;
+    payments-length = ok .lengths .payments;
+    adjustments-length = ok .lengths .adjustments;
+    weights-length-right = ok .lengths .weights;
+    weight-size = λ r l. natAbs-by (con (w t (suc r) k)) (natAbs greatest-weight) (omega (arith, integers, ok .weight (suc r) k (omega arith) p (omega arith)));
+    payment-size = λ r l. ok .payment (suc r) (suc k) (omega arith) (omega arith) (omega arith) .in-range;
+    adjustment-size = λ r l. ok .adjustment (suc r) (suc k) (omega arith) (omega arith) (omega arith) .in-range;
+    outstanding-size = λ r l. rw (e r (omega arith)) (outstanding-size r k (omega arith));
+    outstandings-length = long;
+  }
+
+-- ---- The loop over the development years
+
+-- the years before development year k are in their places, and the outstandings are those of year k, or the last observed ones
+pub record YearsMade (t : Triangle) (years : List Sums) (outstandings : List ℤ) (k : ℕ) : Type 0 where
+  pub first : 1 ≤ k
+  pub last : k ≤ n t
+  pub years-long : length years ≡ 31
+  pub outstandings-long : length outstandings ≡ 32
+  pub made : (j : ℕ) → j + 1 < k → sums-of (getD years j no-sums) ≡ sums t (j + 1)
+  pub not-yet : (j : ℕ) → k ≤ j + 1 → getD years j no-sums ≡ no-sums
+  pub at-hand : (r : ℕ) → r + k ≤ n t → getD outstandings r (pos 0) ≡ R t (suc r) k
+  pub behind : (r : ℕ) → n t < r + k → r < n t → getD outstandings r (pos 0) ≡ R t (suc r) (n t - r)
+  pub beyond : (r : ℕ) → n t ≤ r → getD outstandings r (pos 0) ≡ pos 0
+
+module _ (t : Triangle) where
+  pub no-year-made : (outstandings : List ℤ) → 1 ≤ n t → FirstOutstandings (n t) (t .payments) (t .adjustments) (t .openings) outstandings
+      → YearsMade t (replicate 31 no-sums) outstandings 1
+  unfolding R
+  no-year-made outstandings l f = record {
+    first = omega arith;
+    last = l;
+    years-long = length-replicate 31 no-sums;
+    outstandings-long = f .long;
+    made = λ j h. absurd (omega arith);
+    not-yet = λ j h. blank 31 j no-sums;
+    at-hand = λ r h. f .first r (omega arith);
+    behind = λ r h m. absurd (omega arith);
+    beyond = f .beyond;
+  }
+
+  module _ (years : List Sums) (outstandings : List ℤ) (k : ℕ) (y : YearsMade t years outstandings k) where
+    -- an outstanding at hand, or the last observed one
+    behind : (r : ℕ) → n t ≤ r + k → r < n t → Dec (r + k ≤ n t) → getD outstandings r (pos 0) ≡ R t (suc r) (n t - r)
+    behind r h g (yes q) = let e : k ≡ n t - r = omega arith in y .at-hand r q ∙ ap (R t (suc r)) e
+    behind r h g (no q) = y .behind r (omega arith) g
+
+    -- the sums from the outstandings at hand are the year's
+    same-year : sums t k ≡ partial-sums (n t) k (t .payments) (t .adjustments) (t .weights) outstandings (n t - k)
+    unfolding sums partial-sums
+    same-year = same-sums refl refl (sum-same (n t - k) (λ i. w t i k *ℤ R t i k) (λ i. w t i k *ℤ entry outstandings i) each)
+      where
+        each : (j : ℕ) → j < n t - k → w t (suc j) k *ℤ R t (suc j) k ≡ w t (suc j) k *ℤ entry outstandings (suc j)
+        each j h = ap (λ x. w t (suc j) k *ℤ x) (sym (entry-at outstandings j ∙ y .at-hand j (omega arith)))
+
+    pub one-more-year : (s : Sums) (next : List ℤ) → k < n t → n t ≤ 32
+        → sums-of s ≡ partial-sums (n t) k (t .payments) (t .adjustments) (t .weights) outstandings (n t - k)
+        → MovedOn (n t) k (t .payments) (t .adjustments) outstandings next
+        → YearsMade t (set years (k - 1) s) next (k + 1)
+    unfolding R
+    one-more-year s next l few e m = record {
+      first = omega arith;
+      last = omega arith;
+      years-long = length-set years (k - 1) s ∙ y .years-long;
+      outstandings-long = m .long;
+      made = λ j h. made j h (decLe (suc (j + 1)) k);
+      not-yet = λ j h. getD-set-other years (k - 1) j s no-sums (λ same. omega (arith, same, y .first)) ∙ y .not-yet j (omega arith);
+      at-hand = λ r h. rw add-one (m .moved r (omega arith) ∙ ap (λ x. x -ℤ S t (suc r) (suc k) +ℤ T t (suc r) (suc k)) (y .at-hand r (omega arith)));
+      behind = λ r h g. m .kept r (omega arith) ∙ behind r (omega arith) g (decLe (r + k) (n t));
+      beyond = λ r h. m .kept r (omega arith) ∙ y .beyond r h;
+    }
+      where
+        here : sums-of (getD (set years (k - 1) s) (k - 1) no-sums) ≡ sums t k
+        here = ap sums-of (getD-set-same years (k - 1) s no-sums (omega (arith, y .years-long))) ∙ e ∙ sym same-year
+
+        made : (j : ℕ) → j + 1 < k + 1 → Dec (j + 1 < k) → sums-of (getD (set years (k - 1) s) j no-sums) ≡ sums t (j + 1)
+        made j h (yes q) = ap sums-of (getD-set-other years (k - 1) j s no-sums (λ same. omega (arith, same, q))) ∙ y .made j q
+        made j h (no q) =
+            let place : k - 1 ≡ j = omega arith in
+            let year : k ≡ j + 1 = omega arith in
+            ap (λ (x : ℕ). sums-of (getD (set years (k - 1) s) x no-sums)) (sym place) ∙ here ∙ ap (sums t) year
+
+    pub all-years-made : n t ≤ k → RatiosOf t years outstandings
+    all-years-made l = record {
+      year = λ j h. y .made j (omega arith);
+      year-beyond = λ j h. y .not-yet j (omega (arith, y .last));
+      outstanding = λ r h. rw add-one (behind r (omega arith) h (decLe (r + k) (n t)));
+      outstanding-beyond = y .beyond;
+    }

@@ -1,0 +1,183 @@
+-- One development year: the sums grow accident year by accident year, each outstanding moves on, and all of it stays within 64 bits.
+use mathlib.Core.Path.{_≡_, refl, sym, ap, _∙_, subst}
+use mathlib.Core.Logic.{inl}
+use mathlib.Core.List.{List}
+use Prim.Native.Nat.{ℕ, zero, suc, _+_, _*_, _-_, _≤_, _<_}
+use native.Mathlib.Nat.{le-trans, mul-le-mul-right}
+use native.Mathlib.Numerals.{add-one}
+use native.Mathlib.Decide.{decLe}
+use native.Mathlib.Omega.{arith}
+use lib.Dec.{lit<}
+use lib.IntN.{ℤ, pos, _+ℤ_, _-ℤ_, _*ℤ_, natAbs}
+use lib.ListN.{length, getD, set, length-set}
+use lib.Seq.{getD-set-same, getD-set-other}
+use mir.Syntax.{w64}
+use mir.Val.{SFits}
+use Rattle.integers.proofs.Order.{natAbs-+ℤ, natAbs-*ℤ-≤}
+use Rattle.integers.proofs.MachineArithmetic.{fits-natAbs}
+use Rattle.method.specs.Limits.{most-years, greatest-weight, greatest-amount, greatest-outstanding, greatest-term, greatest-sum}
+use Rattle.method.specs.Counting.{sum-to}
+use Rattle.method.specs.Triangle.{amounts-length, cells-before, cell, entry}
+use Rattle.method.specs.Outstandings.{Sums}
+use Rattle.method.proofs.Positions.{cells-before-none, cells-before-more, cell-at, entry-at, cell-inside, weights-length-is}
+use Rattle.method.proofs.Sums.{sum-none, sum-more, sum-natAbs}
+use Rattle.questions.specs.Observed.{Movable}
+use Rattle.triangle.specs.Ratios.{partial-sums, MovedOn, YearInput, with-row, Summable, Addable}
+
+-- ---- A term and a sum within 64 bits
+
+module _ (sum weight amount : ℤ) (h : Summable sum weight amount) where
+  term-size : natAbs (weight *ℤ amount) ≤ greatest-term
+  term-size = natAbs-*ℤ-≤ weight amount (natAbs greatest-weight) (natAbs greatest-amount) (h .weight-size) (h .amount-size)
+
+  pub so-far-fits : SFits w64 sum
+  so-far-fits = fits-natAbs w64 sum greatest-sum (h .sum-size) (lit< tt)
+
+  pub term-fits : SFits w64 (weight *ℤ amount)
+  term-fits = fits-natAbs w64 (weight *ℤ amount) greatest-term term-size (lit< tt)
+
+  pub sum-fits : SFits w64 (sum +ℤ weight *ℤ amount)
+  sum-fits = fits-natAbs w64 (sum +ℤ weight *ℤ amount) (greatest-sum + greatest-term) (omega (arith, natAbs-+ℤ sum (weight *ℤ amount), h .sum-size, term-size)) (lit< tt)
+
+-- ---- Three sums are those of document 01 where each is
+
+pub same-sums : {p q d p′ q′ d′ : ℤ} → p ≡ p′ → q ≡ q′ → d ≡ d′ → _≡_ {A = Sums} (record { P = p; Q = q; D = d }) (record { P = p′; Q = q′; D = d′ })
+same-sums a b c = cc
+
+-- one accident year more
+partial-sums-more : (n k : ℕ) (payments adjustments weights outstandings : List ℤ) (m : ℕ) → partial-sums n k payments adjustments weights outstandings (m + 1)
+    ≡ with-row (partial-sums n k payments adjustments weights outstandings m)
+    (cell (n - 1) weights (suc m) k) (cell n payments (suc m) (suc k)) (cell n adjustments (suc m) (suc k)) (entry outstandings (suc m))
+unfolding partial-sums
+partial-sums-more n k payments adjustments weights outstandings m = rw add-one (same-sums (sum-more m _) (sum-more m _) (sum-more m _))
+
+-- ---- The loop over the accident years
+
+-- the number at a place of a list is a cell's
+cell-of-place : (m : ℕ) (xs : List ℤ) (r k place : ℕ) → 1 ≤ k → place ≡ cells-before m r + (k - 1) → getD xs place (pos 0) ≡ cell m xs (suc r) k
+cell-of-place m xs r zero place h e = absurd (omega arith)
+cell-of-place m xs r (suc j) place h e = let f : place ≡ cells-before m r + j = omega arith in ap (λ (x : ℕ). getD xs x (pos 0)) f ∙ sym (cell-at m xs r j)
+
+-- after r accident years
+pub record Summed (n k : ℕ) (payments adjustments weights before : List ℤ) (s : Sums) (after : List ℤ) (weight-at amount-at r : ℕ) : Type 0 where
+  pub rows : r + k ≤ n
+  pub sums-are : s ≡ partial-sums n k payments adjustments weights before r
+  pub weight-place : weight-at ≡ cells-before (n - 1) r + (k - 1)
+  pub amount-place : amount-at ≡ cells-before n r + k
+  pub long : length after ≡ 32
+  pub moved : (j : ℕ) → j < r → getD after j (pos 0) ≡ getD before j (pos 0) -ℤ cell n payments (suc j) (suc k) +ℤ cell n adjustments (suc j) (suc k)
+  pub kept : (j : ℕ) → r ≤ j → getD after j (pos 0) ≡ getD before j (pos 0)
+
+module _ (n k : ℕ) (payments adjustments weights before : List ℤ) (ok : YearInput n k payments adjustments weights before) where
+  pub before-first-row : Summed n k payments adjustments weights before (record { P = pos 0; Q = pos 0; D = pos 0 }) before (k - 1) k 0
+  unfolding partial-sums
+  before-first-row = record {
+    rows = omega (arith, ok .last);
+    sums-are = same-sums (sym (sum-none _)) (sym (sum-none _)) (sym (sum-none _));
+    weight-place = omega (arith, cells-before-none (n - 1));
+    amount-place = omega (arith, cells-before-none n);
+    long = ok .outstandings-length;
+    moved = λ j h. absurd (omega arith);
+    kept = λ j h. refl;
+  }
+
+  module _ (s : Sums) (after : List ℤ) (weight-at amount-at r : ℕ) (w : Summed n k payments adjustments weights before s after weight-at amount-at r) where
+    module _ (l : r + k < n) where
+      weight-of : getD weights weight-at (pos 0) ≡ cell (n - 1) weights (suc r) k
+      weight-of = cell-of-place (n - 1) weights r k weight-at (ok .first) (w .weight-place)
+
+      amount-of : (xs : List ℤ) → getD xs amount-at (pos 0) ≡ cell n xs (suc r) (suc k)
+      amount-of xs = cell-of-place n xs r (suc k) amount-at (omega arith) (omega (arith, w .amount-place))
+
+      pub weight-inside : weight-at < length weights
+      weight-inside =
+          omega (arith, w .weight-place, cell-inside (n - 1) r (k - 1) (omega (arith, ok .first)), ok .weights-length-right, weights-length-is n (omega arith))
+
+      pub amount-inside : amount-at < amounts-length n
+      amount-inside = omega (arith, w .amount-place, cell-inside n r k l)
+
+      few : r ≤ natAbs most-years - 1
+      few = omega (arith, ok .most, ok .first)
+
+      -- the size of a sum so far
+      sum-size : (f : ℕ → ℤ) → ((j : ℕ) → j < r → natAbs (cell (n - 1) weights (suc j) k *ℤ f (suc j)) ≤ greatest-term)
+          → natAbs (sum-to r (λ i. cell (n - 1) weights i k *ℤ f i)) ≤ greatest-sum
+      sum-size f h = le-trans (sum-natAbs r greatest-term (λ i. cell (n - 1) weights i k *ℤ f i) each) (mul-le-mul-right greatest-term few)
+        where
+          each : (i : ℕ) → 1 ≤ i → i ≤ r → natAbs (cell (n - 1) weights i k *ℤ f i) ≤ greatest-term
+          each zero p q = absurd (omega arith)
+          each (suc j) p q = h j (omega arith)
+
+      weighted : (j : ℕ) (x : ℤ) → j < r → natAbs x ≤ natAbs greatest-amount → natAbs (cell (n - 1) weights (suc j) k *ℤ x) ≤ greatest-term
+      weighted j x h m =
+          natAbs-*ℤ-≤ (cell (n - 1) weights (suc j) k) x (natAbs greatest-weight) (natAbs greatest-amount) (ok .weight-size j (omega arith)) m
+
+      weight-small : natAbs (getD weights weight-at (pos 0)) ≤ natAbs greatest-weight
+      weight-small = rw weight-of (ok .weight-size r l)
+
+      payment-small : natAbs (getD payments amount-at (pos 0)) ≤ natAbs greatest-amount
+      payment-small = rw (amount-of payments) (ok .payment-size r l)
+
+      adjustment-small : natAbs (getD adjustments amount-at (pos 0)) ≤ natAbs greatest-amount
+      adjustment-small = rw (amount-of adjustments) (ok .adjustment-size r l)
+
+      outstanding-small : natAbs (getD after r (pos 0)) ≤ natAbs greatest-outstanding
+      outstanding-small = rw (w .kept r (omega arith)) (ok .outstanding-size r l)
+
+      pub addable : Addable s (getD weights weight-at (pos 0)) (getD payments amount-at (pos 0)) (getD adjustments amount-at (pos 0)) (getD after r (pos 0))
+      unfolding partial-sums entry
+      addable = rw (w .sums-are) (record {
+        payments = record {
+          sum-size = sum-size (λ i. cell n payments i (suc k)) (λ j h. weighted j _ h (ok .payment-size j (omega arith)));
+          weight-size = weight-small;
+          amount-size = payment-small;
+        };
+        adjustments = record {
+          sum-size = sum-size (λ i. cell n adjustments i (suc k)) (λ j h. weighted j _ h (ok .adjustment-size j (omega arith)));
+          weight-size = weight-small;
+          amount-size = adjustment-small;
+        };
+        exposure = record {
+          sum-size = sum-size (entry before) (λ j h. weighted j _ h (ok .outstanding-size j (omega arith)));
+          weight-size = weight-small;
+          amount-size = outstanding-small;
+        };
+      })
+
+      pub movable : Movable (getD after r (pos 0)) (getD payments amount-at (pos 0)) (getD adjustments amount-at (pos 0))
+      movable = record { payment-size = payment-small; adjustment-size = adjustment-small; in-range-or-unmoved = inl outstanding-small }
+
+      pub next-row : (s′ : Sums) (next : ℤ)
+          → s′ ≡ with-row s (getD weights weight-at (pos 0)) (getD payments amount-at (pos 0)) (getD adjustments amount-at (pos 0)) (getD after r (pos 0))
+          → next ≡ getD after r (pos 0) -ℤ getD payments amount-at (pos 0) +ℤ getD adjustments amount-at (pos 0)
+          → Summed n k payments adjustments weights before s′ (set after r next) (weight-at + (n - 1 - r)) (amount-at + (n - r)) (r + 1)
+      next-row s′ next e f = record {
+        rows = omega arith;
+        sums-are = e ∙ rw (w .sums-are, weight-of, amount-of payments, amount-of adjustments, same-outstanding) (sym (partial-sums-more n k payments adjustments weights before r));
+        weight-place = rw add-one (omega (arith, w .weight-place, cells-before-more (n - 1) r));
+        amount-place = rw add-one (omega (arith, w .amount-place, cells-before-more n r));
+        long = length-set after r next ∙ w .long;
+        moved = λ j h. go j h (decLe (suc j) r);
+        kept = λ j h. getD-set-other after r j next (pos 0) (λ q. omega arith) ∙ w .kept j (omega arith);
+      }
+        where
+          same-outstanding : getD after r (pos 0) ≡ entry before (suc r)
+          same-outstanding = w .kept r (omega arith) ∙ sym (entry-at before r)
+
+          here : next ≡ getD before r (pos 0) -ℤ cell n payments (suc r) (suc k) +ℤ cell n adjustments (suc r) (suc k)
+          here = f ∙ rw (w .kept r (omega arith), amount-of payments, amount-of adjustments)
+
+          go : (j : ℕ) → j < r + 1 → Dec (suc j ≤ r)
+              → getD (set after r next) j (pos 0) ≡ getD before j (pos 0) -ℤ cell n payments (suc j) (suc k) +ℤ cell n adjustments (suc j) (suc k)
+          go j h (yes q) = getD-set-other after r j next (pos 0) (λ same. omega (arith, q, same)) ∙ w .moved j q
+          go j h (no q) =
+              let e : r ≡ j = omega arith in
+              subst (λ (x : ℕ). getD (set after r next) x (pos 0) ≡ getD before x (pos 0) -ℤ cell n payments (suc x) (suc k) +ℤ cell n adjustments (suc x) (suc k)) e
+              (getD-set-same after r next (pos 0) (omega (arith, w .long, ok .most)) ∙ here)
+
+    pub all-rows : n ≤ r + k → (s ≡ partial-sums n k payments adjustments weights before (n - k)) × MovedOn n k payments adjustments before after
+    all-rows l =
+        let e : r ≡ n - k = omega (arith, w .rows) in (
+          w .sums-are ∙ ap (partial-sums n k payments adjustments weights before) e,
+          record { moved = λ j h. w .moved j (omega arith); kept = λ j h. w .kept j (omega arith); long = w .long },
+        )

@@ -1,0 +1,8 @@
+-- Laws that serve several functions, from below.
+pub mod Blank
+pub mod FirstYear
+pub mod DevelopmentYear
+pub mod AllRatios
+pub mod Exposures
+pub mod Readings
+pub mod RowParts

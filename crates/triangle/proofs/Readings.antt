@@ -1,0 +1,51 @@
+-- Reading a triangle: what makes up the answer, accepted or refused, and that a triangle which passed questions 1 to 7 has ratios.
+use mathlib.Core.Path.{_≡_, refl, sym, ap, _∙_, subst}
+use mathlib.Core.Bool.{true}
+use mathlib.Core.List.{List}
+use Prim.Native.Nat.{ℕ}
+use lib.IntN.{ℤ, natAbs}
+use Rattle.method.specs.Triangle.{Triangle}
+use Rattle.method.specs.Questions.{Place, Verdict, accepted, refused, input-lengths-right, input-questions, observed-questions}
+use Rattle.method.proofs.FirstRefusal.{not-both}
+use Rattle.method.proofs.QuestionFacts as facts
+use Rattle.method.proofs.QuestionFacts.{Observed, observed-triangle}
+use Rattle.questions.specs.declared.inputs.AnswerLists.{AnswerLists}
+use Rattle.triangle.specs.declared.ratios.Ratios.{Ratios}
+use Rattle.questions.specs.declared.verdict.Verdict as code
+use Rattle.questions.specs.Verdicts.{verdict-of}
+use Rattle.questions.specs.Lent.{lent, counted, lists-right}
+use Rattle.triangle.specs.Ratios.{RatiosOf, Readable, RatiosRead}
+use Rattle.triangle.specs.Reading.{no-ratios, ReadingOf}
+use Rattle.questions.proofs.Counted.{lists-have-lengths, inputs-right, counted-is}
+
+module _ (t : Triangle) (answers : AnswerLists) (v : code.Verdict) (e : verdict-of v ≡ observed-questions t (lists-right t answers)) where
+  pub refused-reading : {question : ℕ} {p : Place} → verdict-of v ≡ refused question p → ReadingOf t answers (record { verdict = v; ratios = no-ratios })
+  refused-reading r = record { verdict-is = e; where-accepted = λ a. absurd (not-both (sym e ∙ r) a); where-refused = λ _. refl }
+
+  pub accepted-reading : (ratios : Ratios) → verdict-of v ≡ accepted → RatiosOf t (ratios .years) (ratios .outstandings) → ReadingOf t answers (record { verdict = v; ratios = ratios })
+  accepted-reading ratios a r = record { verdict-is = e; where-accepted = λ _. r; where-refused = λ f. absurd (not-both f (sym e ∙ a)) }
+
+-- a triangle that passed questions 1 to 7
+module _ (years cut : ℤ) (payments adjustments weights openings : List ℤ) (answers : AnswerLists) where
+  abbrev t : Triangle
+  t = lent years cut payments adjustments weights openings
+
+  module _ (e : input-questions t (lists-right t answers) ≡ accepted) where
+    pub observed : Observed t
+    observed = observed-triangle t (lists-right t answers) (lists-have-lengths t answers) e
+
+    same : t ≡ counted (natAbs years) (natAbs cut) payments adjustments weights openings
+    same = counted-is years cut payments adjustments weights openings (observed .years) (observed .cut)
+
+    pub readable : Readable (natAbs years) payments adjustments weights openings
+    readable =
+        let yes : lists-right t answers ≡ true = facts.lists-right t (lists-right t answers) e in
+        record {
+          cut = natAbs cut;
+          lists-right = subst (λ (x : Triangle). input-lengths-right x ≡ true) same (inputs-right t answers yes);
+          passed = subst (λ (x : Triangle). input-questions x true ≡ accepted) same (ap (input-questions t) (sym yes) ∙ e);
+        }
+
+    pub ratios-are : (ratios : Ratios) → RatiosRead (natAbs years) payments adjustments weights openings (ratios .years) (ratios .outstandings)
+        → RatiosOf t (ratios .years) (ratios .outstandings)
+    ratios-are ratios r = subst (λ (x : Triangle). RatiosOf x (ratios .years) (ratios .outstandings)) (sym same) (r .ratios (natAbs cut))

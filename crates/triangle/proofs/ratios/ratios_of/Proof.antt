@@ -1,0 +1,78 @@
+-- A walk through the development years. What is shown holds for every cut, since no sum needs it;
+-- that everything fits is known for the cut with which the triangle was asked.
+use borrow.Author.Needs.{needs}
+use mathlib.Core.Bool.{true}
+use Prim.Native.Nat.{ℕ, _-_}
+use native.Mathlib.Omega.{arith}
+use Rattle.method.specs.Triangle.{Triangle}
+use Rattle.method.proofs.QuestionFacts.{Observed, observed-triangle, input-lengths-right-true}
+use Rattle.questions.specs.Lent.{counted}
+use Rattle.triangle.proofs.AllRatios.{first-year, year-input, YearsMade, no-year-made, one-more-year, all-years-made}
+use Rattle.triangle.proofs.ratios.ratios_of.Statement.{statement}
+use Rattle.triangle.proofs.ratios.ratios_of.Tie as tie
+
+abbrev Inv-loop : tie.InvT-loop
+Inv-loop n payments adjustments weights openings years₀ outstandings₀ k₀ years outstandings k = (cut : ℕ) → YearsMade (counted n cut payments adjustments weights openings) years outstandings k
+
+abbrev μ-loop : tie.MeasureT-loop
+μ-loop n payments adjustments weights openings years₀ outstandings₀ k₀ years outstandings k = n - k
+
+-- the triangle that is read, with a cut
+abbrev triangle : tie.Start Inv-loop μ-loop → ℕ → Triangle
+triangle s cut = counted (s .args .n) cut (s .args .payments .now) (s .args .adjustments .now) (s .args .weights .now) (s .args .openings .now)
+
+-- what questions 1 to 7 leave of it, with the cut that they were asked with
+observed : (s : tie.Start Inv-loop μ-loop) → Observed (triangle s (s .pre .cut))
+observed s = observed-triangle (triangle s (s .pre .cut)) true (λ _. input-lengths-right-true (triangle s (s .pre .cut)) (s .pre .lists-right)) (s .pre .passed)
+
+first-outstandings-requires : tie.Need-first-outstandings-requires Inv-loop μ-loop
+first-outstandings-requires c κs = first-year _ (observed c)
+
+loop-holds : tie.Need-loop-holds Inv-loop μ-loop
+loop-holds c = λ cut. no-year-made (triangle (c .before) cut) _ (omega (arith, observed (c .before) .years .fewest)) (c .first-outstandings .ensures)
+
+development-year-requires : tie.Need-development-year-requires Inv-loop μ-loop
+development-year-requires c κs =
+    let s = c .before .before .before .before in
+    let y = c .before .before .loop .inv (s .pre .cut) in
+    year-input (triangle s (s .pre .cut)) (observed s) _ _ (y .first) (omega arith) (y .outstandings-long) (y .at-hand)
+
+sub-years : tie.Need-sub-years Inv-loop μ-loop
+sub-years c = c .before .before .before .loop .inv 0 .first
+
+mul-years : tie.Need-mul-years Inv-loop μ-loop
+mul-years c = let m = observed (c .before .before .before .before .before) .years .most in search needs
+
+array-set-from-years : tie.Need-array-set-from-years Inv-loop μ-loop
+array-set-from-years c = let m = observed (c .before .before .before .before .before) .years .most in let f = c .before .before .before .loop .inv 0 .first in omega arith
+
+add-k : tie.Need-add-k Inv-loop μ-loop
+add-k c = search needs
+
+loop-less : tie.Need-loop-less Inv-loop μ-loop
+loop-less c = search needs
+
+loop-again : tie.Need-loop-again Inv-loop μ-loop
+loop-again c = λ cut.
+    one-more-year (triangle (c .before .before .before .before .before) cut) _ _ _ (c .before .before .before .loop .inv cut) _ _ (omega arith) (observed (c .before .before .before .before .before) .years .most)
+    (c .development-year .ensures .0) (c .development-year .ensures .1)
+
+returns : tie.Need-returns Inv-loop μ-loop
+returns c = record { ratios = λ cut. all-years-made (triangle (c .before .before .before) cut) _ _ _ (c .before .loop .inv cut) (omega arith) }
+
+pub ratios-of-spec : {M : Type 1} → statement M
+ratios-of-spec =
+    tie.close
+    (tie.spec
+    Inv-loop
+    μ-loop
+    first-outstandings-requires
+    loop-holds
+    development-year-requires
+    sub-years
+    mul-years
+    array-set-from-years
+    add-k
+    loop-less
+    loop-again
+    returns)

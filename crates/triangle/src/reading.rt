@@ -1,0 +1,90 @@
+// Reading a triangle: questions 1 to 8, and the ratios of a triangle that they accept.
+ghost use mathlib.Core.Path.{_≡_};
+ghost use Prim.Native.Nat.{_≤_};
+ghost use Rattle.questions.specs.Verdicts.{verdict-of};
+ghost use Rattle.questions.specs.Lent.{lent};
+ghost use Rattle.triangle.specs.Reading.{no-ratios, exposures, ReadingOf};
+use crate::ratios::NO_SUMS;
+use crate::ratios::Ratios;
+use crate::ratios::Sums;
+use crate::ratios::ratios_of;
+use questions::inputs::AnswerLists;
+use questions::inputs::input_questions;
+use questions::limits::ACCIDENT_YEARS;
+use questions::limits::DEVELOPMENT_YEARS;
+use questions::verdict::Verdict;
+use questions::verdict::refusal_at;
+
+// The verdict of questions 1 to 8, and the ratios; where the triangle is refused, its ratios are zeros.
+pub struct Reading {
+    pub verdict: Verdict,
+    pub ratios: Ratios,
+}
+
+// What is lent may be anything: n, the cut and every number any i64, and the lists of any length.
+pub fn read<'a>(
+    years: i64,
+    cut: i64,
+    payments: &'a [i64],
+    adjustments: &'a [i64],
+    weights: &'a [i64],
+    openings: &'a [i64],
+    answers: AnswerLists,
+) -> Reading
+    ensures { λ r. ⌜ ReadingOf
+        (lent years cut (now (payments .entry)) (now (adjustments .entry)) (now (weights .entry)) (now (openings .entry))) answers r ⌝ }
+{
+    let inputs = input_questions(
+        years,
+        cut,
+        payments,
+        adjustments,
+        weights,
+        openings,
+        answers,
+    );
+    let Verdict::Accepted = inputs else {
+        return refused(inputs);
+    };
+    let n = years as usize;
+    let ratios = ratios_of(n, payments, adjustments, weights, openings);
+    let sums = ratios.years;
+    let exposed = question_8(n, sums);
+    let Verdict::Accepted = exposed else {
+        return refused(exposed);
+    };
+    Reading {
+        verdict: exposed,
+        ratios: ratios,
+    }
+}
+
+// The reading of a triangle that is refused.
+fn refused(verdict: Verdict) -> Reading
+    ensures { λ r. ⌜ r ≡ record { verdict = verdict; ratios = no-ratios } ⌝ }
+{
+    let ratios = Ratios {
+        years: [NO_SUMS; DEVELOPMENT_YEARS],
+        outstandings: [0; ACCIDENT_YEARS],
+    };
+    Reading {
+        verdict: verdict,
+        ratios: ratios,
+    }
+}
+
+// Whether every exposure is above 0.
+fn question_8(n: usize, years: [Sums; DEVELOPMENT_YEARS]) -> Verdict
+    requires { ⌜ n ≤ 32 ⌝ }
+    ensures { λ r. ⌜ verdict-of r ≡ exposures n years ⌝ }
+{
+    let mut j = 0;
+    while j + 1 < n {
+        let sums = years[j];
+        if !(0 < sums.exposure) {
+            return refusal_at(8, 0, j + 1);
+        }
+        j += 1;
+    }
+    Verdict::Accepted
+}
