@@ -25,7 +25,10 @@ fits-natAbs w (negsuc n) k h l = record { sfits = omega arith }
 
 -- ---- A number of 64 bits, from its bits; an element of a slice says of itself that its size fits
 
-pub held : (z : ℤ) → mag z < 2 ^ hbits w64 → toZ w64 (ofZ w64 z) ≡ z
+abbrev pub Held : ℤ → Type 0
+Held z = toZ w64 (ofZ w64 z) ≡ z
+
+pub held : (z : ℤ) → mag z < 2 ^ hbits w64 → Held z
 held z h = toZ-ofZ {w = w64} {z = z} (record { sfits = h })
 
 -- ---- The bits of a number of 64 bits are 0 where it is 0

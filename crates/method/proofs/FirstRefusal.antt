@@ -52,28 +52,46 @@ then-accepted (refused question p) w e = absurd (subst IsAccepted (sym e) tt)
 
 -- ---- f 1, …, f m
 
-pub first-none : (f : ℕ → Verdict) → first-to 0 f ≡ accepted
+first-none : (f : ℕ → Verdict) → first-to 0 f ≡ accepted
 unfolding first-to up-to
 first-none f = refl
 
-pub first-more : (m : ℕ) (f : ℕ → Verdict) → first-to (suc m) f ≡ (first-to m f then f (suc m))
+first-more : (m : ℕ) (f : ℕ → Verdict) → first-to (suc m) f ≡ (first-to m f then f (suc m))
 unfolding first-to up-to
 first-more m f = refl
 
--- one more, counted as a loop does
-pub first-goes-on : (j : ℕ) (f : ℕ → Verdict) → first-to j f ≡ accepted → first-to (j + 1) f ≡ f (j + 1)
-first-goes-on j f h = rw add-one (first-more j f ∙ then-goes-on (f (suc j)) h)
-
-pub first-stops : (j m : ℕ) (f : ℕ → Verdict) {question : ℕ} {p : Place}
-    → first-to j f ≡ accepted → f (j + 1) ≡ refused question p → j < m → first-to m f ≡ refused question p
+-- a refusal after j that passed decides
+first-stops : (j m : ℕ) (f : ℕ → Verdict) {question : ℕ} {p : Place}
+    → first-to j f ≡ accepted → f (suc j) ≡ refused question p → j < m → first-to m f ≡ refused question p
 first-stops j zero f h e l = absurd (omega arith)
 first-stops j (suc m) f {question} {p} h e l = go (λ g. first-stops j m f h e g) (decLe (suc j) m)
   where
     go : (j < m → first-to m f ≡ refused question p) → Dec (suc j ≤ m) → first-to (suc m) f ≡ refused question p
     go earlier (yes g) = first-more m f ∙ then-stops (f (suc m)) (earlier g)
     go earlier (no g) =
-        let s : j + 1 ≡ suc m = omega arith in
-        subst (λ (x : ℕ). first-to x f ≡ refused question p) s (first-goes-on j f h ∙ e)
+        let s : j ≡ m = omega arith in
+        subst (λ (x : ℕ). first-to (suc x) f ≡ refused question p) s (first-more j f ∙ then-goes-on (f (suc j)) h ∙ e)
+
+-- The first refusal so far, as a loop looks for it: j of m verdicts are behind, all accepted. Every scan of the code is this one.
+pub record PassedSoFar (m : ℕ) (f : ℕ → Verdict) (j : ℕ) : Type 0 where
+  pub within : j ≤ m
+  pub passed : first-to j f ≡ accepted
+
+pub none-asked : (m : ℕ) (f : ℕ → Verdict) → PassedSoFar m f 0
+none-asked m f = record { within = omega arith; passed = first-none f }
+
+module _ {m : ℕ} {f : ℕ → Verdict} {j : ℕ} (s : PassedSoFar m f j) where
+  pub next-accepted : j < m → f (j + 1) ≡ accepted → PassedSoFar m f (j + 1)
+  next-accepted l e = record {
+    within = omega arith;
+    passed = rw add-one (first-more j f ∙ then-goes-on (f (suc j)) (s .passed) ∙ (rw add-one at e));
+  }
+
+  pub next-refused : {question : ℕ} {p : Place} → j < m → f (j + 1) ≡ refused question p → first-to m f ≡ refused question p
+  next-refused l e = first-stops j m f (s .passed) (rw add-one at e) l
+
+  pub all-accepted : m ≤ j → first-to m f ≡ accepted
+  all-accepted l = let e : m ≡ j = omega (arith, s .within) in ap (λ (x : ℕ). first-to x f) e ∙ s .passed
 
 pub first-accepted : (m : ℕ) (f : ℕ → Verdict) → first-to m f ≡ accepted → (j : ℕ) → 1 ≤ j → j ≤ m → f j ≡ accepted
 first-accepted zero f e j p q = absurd (omega arith)

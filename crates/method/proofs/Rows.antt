@@ -47,7 +47,7 @@ module _ (years : ℤ) (payment-list adjustment-list : List ℤ) (accident-year 
       let (q₃, q₁₀) = then-accepted _ _ e₂ in
       let y : YearsInRange years = years-accepted years q₁ in
       let both = and-true (eqb (length payment-list) (amounts-length (natAbs years))) (eqb (length adjustment-list) (amounts-length (natAbs years)))
-      (lengths-accepted (both-lengths-right years payment-list adjustment-list accident-year) q₃) in
+      (lengths-accepted (both-lengths-right years payment-list adjustment-list) q₃) in
       let range = from-to-true (pos 1) years accident-year (ask-accepted (accident-year-in-range years accident-year) 10 nowhere q₁₀) in
       let counts : (accident-year ≡ pos (natAbs accident-year)) × (1 ≤ natAbs accident-year) × (natAbs accident-year ≤ natAbs years) = count years accident-year (y .counted) (range .0) (range .1) in
       record {
@@ -64,17 +64,18 @@ module _ (years : ℤ) (payment-list adjustment-list : List ℤ) (accident-year 
       count (pos m) (negsuc a) y p q = absurd (p .le)
       count (negsuc m) i y p q = absurd (omega (arith, integers))
 
+  -- whichever list is named
+  pub named-length : RowAccepted → (which : Amounts) → length (named-list payment-list adjustment-list which) ≡ amounts-length (natAbs years)
+  unfolding named-list
+  named-length facts payments = facts .payments-length
+  named-length facts adjustments = facts .adjustments-length
+
   module _ (e : row-verdict years payment-list adjustment-list accident-year ≡ accepted) (named : Amounts) where
     xs : List ℤ
-    xs = named-list years payment-list adjustment-list accident-year named
+    xs = named-list payment-list adjustment-list named
 
     facts : RowAccepted
     facts = row-accepted e
-
-    named-length : (which : Amounts) → length (named-list years payment-list adjustment-list accident-year which) ≡ amounts-length (natAbs years)
-    unfolding named-list
-    named-length payments = facts .payments-length
-    named-length adjustments = facts .adjustments-length
 
     -- the number of the row, counted from 0
     r : ℕ
@@ -91,15 +92,15 @@ module _ (years : ℤ) (payment-list adjustment-list : List ℤ) (accident-year 
     row-length =
         let l : r < natAbs years = omega (arith, facts .first, facts .last) in
         let s : natAbs years - r ≡ natAbs years + 1 - natAbs accident-year = omega (arith, facts .first, facts .last) in
-        ap length row-is ∙ part-length (natAbs years) r xs l (named-length named) ∙ s
+        ap length row-is ∙ part-length (natAbs years) r xs l (named-length facts named) ∙ s
 
     pub row-holds : (k : ℕ) → natAbs accident-year + suc k ≤ natAbs years + 1
         → getD (row years payment-list adjustment-list accident-year named) k (pos 0)
-        ≡ cell (natAbs years) (named-list years payment-list adjustment-list accident-year named) (natAbs accident-year) (suc k)
+        ≡ cell (natAbs years) (named-list payment-list adjustment-list named) (natAbs accident-year) (suc k)
     unfolding xs r
     row-holds k h =
         let l : r < natAbs years = omega (arith, facts .first, facts .last) in
         let s : suc r ≡ natAbs accident-year = omega (arith, facts .first) in
         ap (λ (ys : List ℤ). getD ys k (pos 0)) row-is
-        ∙ part-holds (natAbs years) r xs l (named-length named) k (omega (arith, facts .first))
+        ∙ part-holds (natAbs years) r xs l (named-length facts named) k (omega (arith, facts .first))
         ∙ ap (λ (x : ℕ). cell (natAbs years) xs x (suc k)) s

@@ -59,20 +59,21 @@ module _ (t : Triangle) (accident-year development-year : ℤ) where
 pub data Amounts : Type 0 where
   payments adjustments : Amounts
 
-module _ (years : ℤ) (payment-list adjustment-list : List ℤ) (accident-year : ℤ) where
-  unfoldable pub both-lengths-right : Bool
-  both-lengths-right =
-      eqb (length payment-list) (amounts-length (natAbs years)) && eqb (length adjustment-list) (amounts-length (natAbs years))
+-- whether both lists have their length, also the one that is not named
+unfoldable pub both-lengths-right : ℤ → List ℤ → List ℤ → Bool
+both-lengths-right years payment-list adjustment-list =
+    eqb (length payment-list) (amounts-length (natAbs years)) && eqb (length adjustment-list) (amounts-length (natAbs years))
 
+unfoldable pub named-list : List ℤ → List ℤ → Amounts → List ℤ
+named-list payment-list adjustment-list payments = payment-list
+named-list payment-list adjustment-list adjustments = adjustment-list
+
+module _ (years : ℤ) (payment-list adjustment-list : List ℤ) (accident-year : ℤ) where
   unfoldable pub row-verdict : Verdict
   row-verdict =
       question-1 years
-      then question-3 both-lengths-right
+      then question-3 (both-lengths-right years payment-list adjustment-list)
       then question-10 (accident-year-in-range years accident-year)
-
-  unfoldable pub named-list : Amounts → List ℤ
-  named-list payments = payment-list
-  named-list adjustments = adjustment-list
 
   -- row i of a list whose rows have n, n − 1, … cells; empty where refused
   unfoldable pub row-of : List ℤ → Verdict → List ℤ
@@ -80,4 +81,4 @@ module _ (years : ℤ) (payment-list adjustment-list : List ℤ) (accident-year 
   row-of xs (refused question p) = []
 
   unfoldable pub row : Amounts → List ℤ
-  row named = row-of (named-list named) row-verdict
+  row named = row-of (named-list payment-list adjustment-list named) row-verdict

@@ -29,7 +29,8 @@ module _ (n cut : ℕ) (payments adjustments openings : List ℤ) where
       ap₂ (λ (a b : ℕ). row-of-outstandings cut (r + 1) (entry openings a) (row-part n b payments) (row-part n b adjustments)) (add-one r) e
 
   module _ (right : AmountsRight n cut payments adjustments openings) (r : ℕ) (l : r < n) where
-    row-passed : (xs : List ℤ) → length xs ≡ amounts-length n → whole-list AmountRight cut n xs ≡ accepted → row-of-list AmountRight cut (r + 1) (row-part n r xs) ≡ accepted
+    row-passed : (xs : List ℤ) → length xs ≡ amounts-length n → whole-list AmountRight cut n xs ≡ accepted
+        → row-of-list AmountRight cut (r + 1) (row-part n r xs) ≡ accepted
     unfolding whole-list each-cell
     row-passed xs long e =
         row-as-part AmountRight cut n xs r l long ∙ first-accepted n (rows-of-list AmountRight cut n xs) e (r + 1) (omega arith) (omega arith)
@@ -52,7 +53,8 @@ module _ (n cut : ℕ) (payments adjustments openings : List ℤ) where
 
 -- ---- The outstandings of document 01
 
-module _ (n cut : ℕ) (payments adjustments weights openings : List ℤ) (paid : length payments ≡ amounts-length n) (adjusted : length adjustments ≡ amounts-length n) where
+module _ (n cut : ℕ) (payments adjustments weights openings : List ℤ) (paid : length payments ≡ amounts-length n)
+    (adjusted : length adjustments ≡ amounts-length n) where
   abbrev t : Triangle
   t = counted n cut payments adjustments weights openings
 

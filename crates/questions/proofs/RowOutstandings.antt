@@ -18,9 +18,9 @@ use Rattle.integers.proofs.LinearFacts.{integers, fits-by}
 use Rattle.integers.proofs.Order.{natAbs-parts, natAbs-by, natAbs-≤}
 use Rattle.method.specs.Limits.{greatest-amount, greatest-outstanding}
 use Rattle.method.specs.Triangle.{entry}
-use Rattle.method.specs.Questions.{accepted, refused, at, first-to, from-to, is-zero}
+use Rattle.method.specs.Questions.{accepted, refused, at, from-to, is-zero}
 use Rattle.method.proofs.Tests.{and-true, unless-true, from-to-true, is-zero-true, leb-true}
-use Rattle.method.proofs.FirstRefusal.{ask-yes, ask-no, ask-accepted, first-none, first-goes-on, first-stops, first-accepted}
+use Rattle.method.proofs.FirstRefusal.{ask-yes, ask-no, ask-accepted, PassedSoFar, none-asked, next-accepted, next-refused, all-accepted, first-accepted}
 use Rattle.questions.specs.declared.cells.CellTest.the-variants.{AmountRight}
 use Rattle.questions.specs.Cells.{empty-where-missing, cell-of-row, row-of-list}
 use Rattle.questions.specs.Observed.{in-range-where-known, row-outstanding, year-of-row, row-of-outstandings, Movable, RowRight}
@@ -35,7 +35,8 @@ pub amount-in-row : (cut i : ℕ) (row : List ℤ) → row-of-list AmountRight c
 unfolding row-of-list cell-of-row entry
 amount-in-row cut i row e j l =
     let x : ℤ = getD row j (pos 0) in
-    let asked : cell-of-row AmountRight cut i row (suc j) ≡ accepted = first-accepted (length row) (cell-of-row AmountRight cut i row) e (suc j) (omega arith) (omega arith) in
+    let asked : cell-of-row AmountRight cut i row (suc j) ≡ accepted = first-accepted (length row)
+    (cell-of-row AmountRight cut i row) e (suc j) (omega arith) (omega arith) in
     let both = and-true (from-to (negℤ greatest-amount) greatest-amount x) (empty-where-missing cut i (suc j) x) (ask-accepted _ 5 (at i (suc j)) asked) in
     record {
       in-range = natAbs-≤ x (natAbs greatest-amount) .1 (from-to-true (negℤ greatest-amount) greatest-amount x (both .0));
@@ -51,7 +52,8 @@ less-payment-fits o s t f m = go (m .in-range-or-unmoved)
     go (inl h) = fits-by w64 (con o :- con s) (omega (arith, m .payment-size, natAbs-parts o, natAbs-parts s))
     go (inr h) = fits-by w64 (con o :- con s) (omega (arith, integers, fits→parts f))
 
-pub next-fits : (outstanding payment adjustment : ℤ) → SFits w64 outstanding → Movable outstanding payment adjustment → SFits w64 (outstanding -ℤ payment +ℤ adjustment)
+pub next-fits : (outstanding payment adjustment : ℤ) → SFits w64 outstanding → Movable outstanding payment adjustment
+    → SFits w64 (outstanding -ℤ payment +ℤ adjustment)
 next-fits o s t f m = go (m .in-range-or-unmoved)
   where
     go : (natAbs o ≤ natAbs greatest-outstanding) ⊎ ((s ≡ pos 0) × (t ≡ pos 0)) → SFits w64 (o -ℤ s +ℤ t)
@@ -62,19 +64,17 @@ next-fits o s t f m = go (m .in-range-or-unmoved)
 
 -- after j years
 pub record Rolled (cut i : ℕ) (opening : ℤ) (payments adjustments : List ℤ) (outstanding : ℤ) (j : ℕ) : Type 0 where
-  pub years : j ≤ length payments
+  pub so-far : PassedSoFar (length payments) (year-of-row cut i opening payments adjustments) j
   pub is : outstanding ≡ row-outstanding opening payments adjustments j
   pub in-range-or-unknown : (natAbs outstanding ≤ natAbs greatest-outstanding) ⊎ (i + j < cut)
-  pub passed : first-to j (year-of-row cut i opening payments adjustments) ≡ accepted
 
 module _ (cut i : ℕ) (opening : ℤ) (payments adjustments : List ℤ) (right : RowRight cut i opening payments adjustments) where
   pub before-first-year : Rolled cut i opening payments adjustments opening 0
   unfolding row-outstanding
   before-first-year = record {
-    years = omega arith;
+    so-far = none-asked (length payments) (year-of-row cut i opening payments adjustments);
     is = refl;
     in-range-or-unknown = go (decLe cut i);
-    passed = first-none (year-of-row cut i opening payments adjustments);
   }
     where
       go : Dec (cut ≤ i) → (natAbs opening ≤ natAbs greatest-outstanding) ⊎ (i + 0 < cut)
@@ -113,10 +113,9 @@ module _ (cut i : ℕ) (opening : ℤ) (payments adjustments : List ℤ) (right 
         pub next-year-passed : in-range-where-known cut i (j + 1) next ≡ true → Rolled cut i opening payments adjustments next (j + 1)
         unfolding year-of-row
         next-year-passed p = record {
-          years = omega arith;
+          so-far = next-accepted (s .so-far) l (ask-yes _ 6 (at i (j + 1)) (asked-of true p));
           is = next-is;
           in-range-or-unknown = go (decLe cut (i + (j + 1)));
-          passed = first-goes-on j (year-of-row cut i opening payments adjustments) (s .passed) ∙ ask-yes _ 6 (at i (j + 1)) (asked-of true p);
         }
           where
             go : Dec (cut ≤ i + (j + 1)) → (natAbs next ≤ natAbs greatest-outstanding) ⊎ (i + (j + 1) < cut)
@@ -129,11 +128,8 @@ module _ (cut i : ℕ) (opening : ℤ) (payments adjustments : List ℤ) (right 
         pub next-year-refused : in-range-where-known cut i (j + 1) next ≡ false
             → row-of-outstandings cut i opening payments adjustments ≡ refused 6 (at i (j + 1))
         unfolding year-of-row row-of-outstandings
-        next-year-refused p =
-            first-stops j (length payments) (year-of-row cut i opening payments adjustments) (s .passed) (ask-no _ 6 (at i (j + 1)) (asked-of false p)) l
+        next-year-refused p = next-refused (s .so-far) l (ask-no _ 6 (at i (j + 1)) (asked-of false p))
 
     pub all-years-passed : length payments ≤ j → row-of-outstandings cut i opening payments adjustments ≡ accepted
     unfolding row-of-outstandings
-    all-years-passed l =
-        let e : length payments ≡ j = omega (arith, s .years) in
-        ap (λ (x : ℕ). first-to x (year-of-row cut i opening payments adjustments)) e ∙ s .passed
+    all-years-passed = all-accepted (s .so-far)

@@ -7,19 +7,18 @@ use native.Mathlib.Omega.{arith}
 use lib.IntN.{ℤ}
 use lib.ListN.{take, drop}
 use Rattle.method.specs.Triangle.{amounts-length, cells-before}
-use Rattle.method.specs.Questions.{Place, Verdict, accepted, refused, first-to}
+use Rattle.method.specs.Questions.{Verdict, accepted}
 use Rattle.questions.specs.Lent.{row-part}
-use Rattle.method.proofs.FirstRefusal.{first-none, first-goes-on, first-stops}
+use Rattle.method.proofs.FirstRefusal.{PassedSoFar, none-asked, next-accepted}
 use Rattle.method.proofs.Positions.{cells-before-none, cells-before-more, row-inside}
 
--- r rows are behind, none of them refused, and the next one begins at `start`
+-- r rows are behind, and the next one begins at `start`
 pub record RowsPassed (n : ℕ) (f : ℕ → Verdict) (start r : ℕ) : Type 0 where
-  pub rows : r ≤ n
+  pub so-far : PassedSoFar n f r
   pub start-is : start ≡ cells-before n r
-  pub passed : first-to r f ≡ accepted
 
 pub before-first-row : (n : ℕ) (f : ℕ → Verdict) → RowsPassed n f 0 0
-before-first-row n f = record { rows = omega arith; start-is = sym (cells-before-none n); passed = first-none f }
+before-first-row n f = record { so-far = none-asked n f; start-is = sym (cells-before-none n) }
 
 module _ {n : ℕ} {f : ℕ → Verdict} {start r : ℕ} (w : RowsPassed n f start r) where
   pub row-end-inside : r < n → start + (n - r) ≤ amounts-length n
@@ -27,16 +26,9 @@ module _ {n : ℕ} {f : ℕ → Verdict} {start r : ℕ} (w : RowsPassed n f sta
 
   pub before-next-row : r < n → f (r + 1) ≡ accepted → RowsPassed n f (start + (n - r)) (r + 1)
   before-next-row l e = record {
-    rows = omega arith;
+    so-far = next-accepted (w .so-far) l e;
     start-is = rw add-one (ap (λ (x : ℕ). x + (n - r)) (w .start-is) ∙ sym (cells-before-more n r));
-    passed = first-goes-on r f (w .passed) ∙ e;
   }
-
-  pub row-refused : {question : ℕ} {p : Place} → r < n → f (r + 1) ≡ refused question p → first-to n f ≡ refused question p
-  row-refused l e = first-stops r n f (w .passed) e l
-
-  pub no-row-refused : n ≤ r → first-to n f ≡ accepted
-  no-row-refused l = let e : n ≡ r = omega (arith, w .rows) in ap (λ (x : ℕ). first-to x f) e ∙ w .passed
 
   -- the next row, as the part of the list that the code takes
   pub part-is-row : (xs : List ℤ) → take (start + (n - r) - start) (drop start xs) ≡ row-part n r xs

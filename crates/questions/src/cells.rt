@@ -5,9 +5,9 @@ ghost use lib.ListN.{length};
 ghost use Rattle.method.specs.Triangle.{amounts-length};
 ghost use Rattle.questions.specs.Verdicts.{verdict-of};
 ghost use Rattle.questions.specs.Cells.{passes, number-of, empty-where-missing, row-of-list, whole-list};
-use crate::inputs::from_to;
 use crate::limits::GREATEST_AMOUNT;
 use crate::limits::GREATEST_WEIGHT;
+use crate::limits::from_to;
 use crate::verdict::Verdict;
 use crate::verdict::refusal_at;
 

@@ -3,7 +3,7 @@ ghost use mathlib.Core.Path.{_≡_};
 ghost use Prim.Native.Nat.{_≤_, _<_};
 ghost use lib.ListN.{length};
 ghost use Rattle.method.specs.Triangle.{amounts-length};
-ghost use Rattle.method.specs.Questions.{accepted, _then_, from-to, question-1, question-2, list-questions, input-questions, input-lengths-right};
+ghost use Rattle.method.specs.Questions.{accepted, _then_, question-1, question-2, list-questions, input-questions, input-lengths-right};
 ghost use Rattle.questions.specs.Verdicts.{verdict-of};
 ghost use Rattle.questions.specs.Cells.{whole-list};
 ghost use Rattle.questions.specs.declared.cells.CellTest.the-variants.{AmountRight};
@@ -12,6 +12,7 @@ use crate::cells::CellTest;
 use crate::cells::first_refusal;
 use crate::limits::FEWEST_YEARS;
 use crate::limits::MOST_YEARS;
+use crate::limits::from_to;
 use crate::outstandings::question_6;
 use crate::verdict::Verdict;
 use crate::verdict::asked;
@@ -148,11 +149,4 @@ fn question_5<'a>(n: usize, cut: usize, payments: &'a [i64], adjustments: &'a [i
         return paid;
     };
     first_refusal(CellTest::AmountRight, cut, n, adjustments)
-}
-
-// Whether low ≤ x ≤ high.
-pub fn from_to(low: i64, high: i64, x: i64) -> bool
-    ensures { λ r. ⌜ r ≡ from-to low high x ⌝ }
-{
-    (low <= x) & (x <= high)
 }

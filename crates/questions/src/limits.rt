@@ -1,4 +1,6 @@
-// The limits of document 01, each named once.
+// The limits of document 01, each named once, and the test of a range.
+ghost use mathlib.Core.Path.{_≡_};
+ghost use Rattle.method.specs.Questions.{from-to};
 
 pub const FEWEST_YEARS: i64 = 2;
 
@@ -16,3 +18,10 @@ pub const GREATEST_OUTSTANDING: i64 = 1_000_000_000;
 pub const ACCIDENT_YEARS: usize = 32;
 
 pub const DEVELOPMENT_YEARS: usize = 31;
+
+// Whether low ≤ x ≤ high.
+pub fn from_to(low: i64, high: i64, x: i64) -> bool
+    ensures { λ r. ⌜ r ≡ from-to low high x ⌝ }
+{
+    (low <= x) & (x <= high)
+}

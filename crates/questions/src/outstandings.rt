@@ -5,8 +5,8 @@ ghost use lib.IntN.{_+ℤ_, _-ℤ_};
 ghost use Rattle.method.specs.Triangle.{entry};
 ghost use Rattle.questions.specs.Verdicts.{verdict-of};
 ghost use Rattle.questions.specs.Observed.{AmountsRight, RowRight, in-range-where-known, row-of-outstandings, all-outstandings, Movable};
-use crate::inputs::from_to;
 use crate::limits::GREATEST_OUTSTANDING;
+use crate::limits::from_to;
 use crate::verdict::Verdict;
 use crate::verdict::refusal_at;
 

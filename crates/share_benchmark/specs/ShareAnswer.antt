@@ -1,17 +1,13 @@
 -- What the benchmark's call answers, for any three numbers.
-use mathlib.Core.Bool.{Bool, true, false, not, _&&_}
+use mathlib.Core.Bool.{Bool, true, false, _&&_}
 use lib.IntN.{ℤ, pos, negℤ}
-use lib.Signed.{ltZ}
 use Rattle.method.specs.Limits.{greatest-figure, greatest-sum}
 use Rattle.method.specs.ProjectedYear.{share}
+use Rattle.method.specs.Questions.{from-to}
 use Rattle.share.specs.Share.{answered}
 use Rattle.share.specs.declared.Share.{Share}
 use Rattle.share.specs.declared.Share.the-variants.{Rounded, TooLarge}
 use Rattle.share_benchmark.specs.declared.ShareAnswer.{ShareAnswer}
-
--- not below the least and not above the most
-abbrev pub within : ℤ → ℤ → ℤ → Bool
-within least most x = not (ltZ x least) && not (ltZ most x)
 
 abbrev pub as-answer : Share → ShareAnswer
 as-answer (Rounded x) = record { outcome = pos 0; value = x .0 }
@@ -20,9 +16,9 @@ as-answer TooLarge = record { outcome = pos 1; value = pos 0 }
 -- the arguments that a share is asked of
 abbrev pub in-limits : ℤ → ℤ → ℤ → Bool
 in-limits outstanding part exposure =
-    within (pos 0) greatest-figure outstanding
-    && within (negℤ (pos greatest-sum)) (pos greatest-sum) part
-    && within (pos 1) (pos greatest-sum) exposure
+    from-to (pos 0) greatest-figure outstanding
+    && from-to (negℤ (pos greatest-sum)) (pos greatest-sum) part
+    && from-to (pos 1) (pos greatest-sum) exposure
 
 unfoldable pub share-answer : ℤ → ℤ → ℤ → ShareAnswer
 share-answer outstanding part exposure = elim (in-limits outstanding part exposure) [

@@ -1,6 +1,7 @@
 // The share as a benchmark links it, for any three 64-bit numbers.
 ghost use mathlib.Core.Path.{_≡_};
-ghost use Rattle.share_benchmark.specs.ShareAnswer.{within, as-answer, share-answer};
+ghost use Rattle.share_benchmark.specs.ShareAnswer.{as-answer, share-answer};
+use questions::limits::from_to;
 use share::Share;
 use share::millionths::Millionths;
 
@@ -16,10 +17,10 @@ pub struct ShareAnswer {
 pub extern "C" fn juniperprow_share(outstanding: i64, part: i64, exposure: i64) -> ShareAnswer
     ensures { λ r. ⌜ r ≡ share-answer outstanding part exposure ⌝ }
 {
-    if in_range(outstanding, 0, GREATEST_OUTSTANDING) {
-        if in_range(part, -GREATEST_SUM, GREATEST_SUM) {
-            if in_range(exposure, 1, GREATEST_SUM) {
-                return told(share::rounded_share(Millionths(outstanding), part, exposure));
+    if from_to(0, GREATEST_FIGURE, outstanding) {
+        if from_to(-GREATEST_SUM, GREATEST_SUM, part) {
+            if from_to(1, GREATEST_SUM, exposure) {
+                return answer_of(share::rounded_share(Millionths(outstanding), part, exposure));
             }
         }
     }
@@ -29,23 +30,11 @@ pub extern "C" fn juniperprow_share(outstanding: i64, part: i64, exposure: i64) 
     }
 }
 
-const GREATEST_OUTSTANDING: i64 = 10_000_000_000_000_000;
+const GREATEST_FIGURE: i64 = 10_000_000_000_000_000;
 
 const GREATEST_SUM: i64 = 3_100_000_000_000;
 
-fn in_range(x: i64, least: i64, most: i64) -> bool
-    ensures { λ r. ⌜ r ≡ within least most x ⌝ }
-{
-    if x < least {
-        return false;
-    }
-    if x > most {
-        return false;
-    }
-    true
-}
-
-fn told(share: Share) -> ShareAnswer
+fn answer_of(share: Share) -> ShareAnswer
     ensures { λ r. ⌜ r ≡ as-answer share ⌝ }
 {
     match share {

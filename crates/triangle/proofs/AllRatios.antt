@@ -7,7 +7,7 @@ use native.Mathlib.Decide.{decLe}
 use native.Mathlib.Omega.{arith}
 use lib.IntN.{ℤ, pos, _+ℤ_, _-ℤ_, _*ℤ_, natAbs}
 use lib.ListN.{length, getD, set, replicate, length-set, length-replicate}
-use lib.Seq.{getD-set-same, getD-set-other}
+use lib.Seq.{getD-set-other}
 use lib.Signed.{_≤ℤ_}
 use Rattle.integers.proofs.RingSolver.{con}
 use Rattle.integers.proofs.LinearFacts.{integers}
@@ -21,7 +21,7 @@ use Rattle.method.proofs.Positions.{entry-at}
 use Rattle.method.proofs.Sums.{sum-same}
 use Rattle.triangle.specs.declared.ratios.Sums.{Sums}
 use Rattle.triangle.specs.Ratios.{sums-of, no-sums, partial-sums, RatiosOf, FirstYear, FirstOutstandings, YearInput, MovedOn}
-use Rattle.triangle.proofs.Blank.{blank}
+use Rattle.triangle.proofs.Places.{blank, one-more-place}
 use Rattle.triangle.proofs.DevelopmentYear.{same-sums}
 
 -- ---- What questions 1 to 7 leave, as the code wants it
@@ -115,22 +115,16 @@ module _ (t : Triangle) where
       last = omega arith;
       years-long = length-set years (k - 1) s ∙ y .years-long;
       outstandings-long = m .long;
-      made = λ j h. made j h (decLe (suc (j + 1)) k);
+      made = λ j h. one-more-place no-sums (λ j x. sums-of x ≡ sums t (j + 1)) years (k - 1) s
+          (omega (arith, y .years-long)) here (λ i l. y .made i (omega arith)) j (omega (arith, y .first));
       not-yet = λ j h. getD-set-other years (k - 1) j s no-sums (λ same. omega (arith, same, y .first)) ∙ y .not-yet j (omega arith);
       at-hand = λ r h. rw add-one (m .moved r (omega arith) ∙ ap (λ x. x -ℤ S t (suc r) (suc k) +ℤ T t (suc r) (suc k)) (y .at-hand r (omega arith)));
       behind = λ r h g. m .kept r (omega arith) ∙ behind r (omega arith) g (decLe (r + k) (n t));
       beyond = λ r h. m .kept r (omega arith) ∙ y .beyond r h;
     }
       where
-        here : sums-of (getD (set years (k - 1) s) (k - 1) no-sums) ≡ sums t k
-        here = ap sums-of (getD-set-same years (k - 1) s no-sums (omega (arith, y .years-long))) ∙ e ∙ sym same-year
-
-        made : (j : ℕ) → j + 1 < k + 1 → Dec (j + 1 < k) → sums-of (getD (set years (k - 1) s) j no-sums) ≡ sums t (j + 1)
-        made j h (yes q) = ap sums-of (getD-set-other years (k - 1) j s no-sums (λ same. omega (arith, same, q))) ∙ y .made j q
-        made j h (no q) =
-            let place : k - 1 ≡ j = omega arith in
-            let year : k ≡ j + 1 = omega arith in
-            ap (λ (x : ℕ). sums-of (getD (set years (k - 1) s) x no-sums)) (sym place) ∙ here ∙ ap (sums t) year
+        here : sums-of s ≡ sums t (k - 1 + 1)
+        here = let year : k ≡ k - 1 + 1 = omega (arith, y .first) in e ∙ sym same-year ∙ ap (sums t) year
 
     pub all-years-made : n t ≤ k → RatiosOf t years outstandings
     all-years-made l = record {

@@ -1,16 +1,15 @@
 -- One development year: the sums grow accident year by accident year, each outstanding moves on, and all of it stays within 64 bits.
-use mathlib.Core.Path.{_≡_, refl, sym, ap, _∙_, subst}
+use mathlib.Core.Path.{_≡_, refl, sym, ap, _∙_}
 use mathlib.Core.Logic.{inl}
 use mathlib.Core.List.{List}
 use Prim.Native.Nat.{ℕ, zero, suc, _+_, _*_, _-_, _≤_, _<_}
 use native.Mathlib.Nat.{le-trans, mul-le-mul-right}
 use native.Mathlib.Numerals.{add-one}
-use native.Mathlib.Decide.{decLe}
 use native.Mathlib.Omega.{arith}
 use lib.Dec.{lit<}
 use lib.IntN.{ℤ, pos, _+ℤ_, _-ℤ_, _*ℤ_, natAbs}
 use lib.ListN.{length, getD, set, length-set}
-use lib.Seq.{getD-set-same, getD-set-other}
+use lib.Seq.{getD-set-other}
 use mir.Syntax.{w64}
 use mir.Val.{SFits}
 use Rattle.integers.proofs.Order.{natAbs-+ℤ, natAbs-*ℤ-≤}
@@ -22,6 +21,7 @@ use Rattle.method.specs.Outstandings.{Sums}
 use Rattle.method.proofs.Positions.{cells-before-none, cells-before-more, cell-at, entry-at, cell-inside, weights-length-is}
 use Rattle.method.proofs.Sums.{sum-none, sum-more, sum-natAbs}
 use Rattle.questions.specs.Observed.{Movable}
+use Rattle.triangle.proofs.Places.{one-more-place}
 use Rattle.triangle.specs.Ratios.{partial-sums, MovedOn, YearInput, with-row, Summable, Addable}
 
 -- ---- A term and a sum within 64 bits
@@ -37,7 +37,8 @@ module _ (sum weight amount : ℤ) (h : Summable sum weight amount) where
   term-fits = fits-natAbs w64 (weight *ℤ amount) greatest-term term-size (lit< tt)
 
   pub sum-fits : SFits w64 (sum +ℤ weight *ℤ amount)
-  sum-fits = fits-natAbs w64 (sum +ℤ weight *ℤ amount) (greatest-sum + greatest-term) (omega (arith, natAbs-+ℤ sum (weight *ℤ amount), h .sum-size, term-size)) (lit< tt)
+  sum-fits = fits-natAbs w64 (sum +ℤ weight *ℤ amount) (greatest-sum + greatest-term)
+      (omega (arith, natAbs-+ℤ sum (weight *ℤ amount), h .sum-size, term-size)) (lit< tt)
 
 -- ---- Three sums are those of document 01 where each is
 
@@ -153,11 +154,13 @@ module _ (n k : ℕ) (payments adjustments weights before : List ℤ) (ok : Year
           → Summed n k payments adjustments weights before s′ (set after r next) (weight-at + (n - 1 - r)) (amount-at + (n - r)) (r + 1)
       next-row s′ next e f = record {
         rows = omega arith;
-        sums-are = e ∙ rw (w .sums-are, weight-of, amount-of payments, amount-of adjustments, same-outstanding) (sym (partial-sums-more n k payments adjustments weights before r));
+        sums-are = e ∙ rw (w .sums-are, weight-of, amount-of payments, amount-of adjustments, same-outstanding)
+            (sym (partial-sums-more n k payments adjustments weights before r));
         weight-place = rw add-one (omega (arith, w .weight-place, cells-before-more (n - 1) r));
         amount-place = rw add-one (omega (arith, w .amount-place, cells-before-more n r));
         long = length-set after r next ∙ w .long;
-        moved = λ j h. go j h (decLe (suc j) r);
+        moved = one-more-place (pos 0) (λ j o. o ≡ getD before j (pos 0) -ℤ cell n payments (suc j) (suc k) +ℤ cell n adjustments (suc j) (suc k)) after r next
+            (omega (arith, w .long, ok .most)) here (w .moved);
         kept = λ j h. getD-set-other after r j next (pos 0) (λ q. omega arith) ∙ w .kept j (omega arith);
       }
         where
@@ -166,14 +169,6 @@ module _ (n k : ℕ) (payments adjustments weights before : List ℤ) (ok : Year
 
           here : next ≡ getD before r (pos 0) -ℤ cell n payments (suc r) (suc k) +ℤ cell n adjustments (suc r) (suc k)
           here = f ∙ rw (w .kept r (omega arith), amount-of payments, amount-of adjustments)
-
-          go : (j : ℕ) → j < r + 1 → Dec (suc j ≤ r)
-              → getD (set after r next) j (pos 0) ≡ getD before j (pos 0) -ℤ cell n payments (suc j) (suc k) +ℤ cell n adjustments (suc j) (suc k)
-          go j h (yes q) = getD-set-other after r j next (pos 0) (λ same. omega (arith, q, same)) ∙ w .moved j q
-          go j h (no q) =
-              let e : r ≡ j = omega arith in
-              subst (λ (x : ℕ). getD (set after r next) x (pos 0) ≡ getD before x (pos 0) -ℤ cell n payments (suc x) (suc k) +ℤ cell n adjustments (suc x) (suc k)) e
-              (getD-set-same after r next (pos 0) (omega (arith, w .long, ok .most)) ∙ here)
 
     pub all-rows : n ≤ r + k → (s ≡ partial-sums n k payments adjustments weights before (n - k)) × MovedOn n k payments adjustments before after
     all-rows l =

@@ -1,20 +1,19 @@
 -- The outstandings of development year 1, accident year by accident year.
-use mathlib.Core.Path.{_≡_, sym, ap, _∙_, subst}
+use mathlib.Core.Path.{_≡_, sym, ap, _∙_}
 use mathlib.Core.Logic.{inl}
 use mathlib.Core.List.{List}
 use Prim.Native.Nat.{ℕ, suc, _+_, _-_, _≤_, _<_}
 use native.Mathlib.Numerals.{add-one}
-use native.Mathlib.Decide.{decLe}
 use native.Mathlib.Omega.{arith}
 use lib.IntN.{ℤ, pos, _+ℤ_, _-ℤ_, natAbs}
 use lib.ListN.{length, getD, set, replicate, length-set, length-replicate}
-use lib.Seq.{getD-set-same, getD-set-other}
+use lib.Seq.{getD-set-other}
 use Rattle.method.specs.Limits.{greatest-amount}
 use Rattle.method.specs.Triangle.{amounts-length, cells-before, cell, entry}
 use Rattle.method.proofs.Positions.{cells-before-none, cells-before-more, cell-at, cell-inside}
 use Rattle.questions.specs.Observed.{Movable}
 use Rattle.triangle.specs.Ratios.{FirstYear, FirstOutstandings}
-use Rattle.triangle.proofs.Blank.{blank}
+use Rattle.triangle.proofs.Places.{blank, one-more-place}
 
 -- the outstandings of the first r accident years are in their places, and zeros in the others
 pub record Placed (n : ℕ) (payments adjustments openings outstandings : List ℤ) (start r : ℕ) : Type 0 where
@@ -57,20 +56,13 @@ module _ (n : ℕ) (payments adjustments openings : List ℤ) (ok : FirstYear n 
         rows = omega arith;
         start-is = rw add-one (omega (arith, p .start-is, cells-before-more n r));
         long = length-set outstandings r next ∙ p .long;
-        first = λ j h. go j h (decLe (suc j) r);
+        first = one-more-place (pos 0) (λ j o. o ≡ entry openings (suc j) -ℤ cell n payments (suc j) 1 +ℤ cell n adjustments (suc j) 1) outstandings r next
+            (omega (arith, p .long, ok .most)) here (p .first);
         beyond = λ j h. getD-set-other outstandings r j next (pos 0) (λ same. omega (arith, same)) ∙ p .beyond j (omega arith);
       }
         where
           here : next ≡ entry openings (suc r) -ℤ cell n payments (suc r) 1 +ℤ cell n adjustments (suc r) 1
           here = e ∙ rw (first-cell payments, first-cell adjustments)
-
-          go : (j : ℕ) → j < r + 1 → Dec (suc j ≤ r)
-              → getD (set outstandings r next) j (pos 0) ≡ entry openings (suc j) -ℤ cell n payments (suc j) 1 +ℤ cell n adjustments (suc j) 1
-          go j h (yes q) = getD-set-other outstandings r j next (pos 0) (λ same. omega (arith, q, same)) ∙ p .first j q
-          go j h (no q) =
-              let same : r ≡ j = omega arith in
-              subst (λ (x : ℕ). getD (set outstandings r next) x (pos 0) ≡ entry openings (suc x) -ℤ cell n payments (suc x) 1 +ℤ cell n adjustments (suc x) 1) same
-              (getD-set-same outstandings r next (pos 0) (omega (arith, p .long, ok .most)) ∙ here)
 
     pub all-placed : n ≤ r → FirstOutstandings n payments adjustments openings outstandings
     all-placed l = record { first = λ j h. p .first j (omega arith); beyond = λ j h. p .beyond j (omega (arith, p .rows)); long = p .long }

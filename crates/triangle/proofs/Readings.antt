@@ -22,7 +22,8 @@ module _ (t : Triangle) (answers : AnswerLists) (v : code.Verdict) (e : verdict-
   pub refused-reading : {question : ℕ} {p : Place} → verdict-of v ≡ refused question p → ReadingOf t answers (record { verdict = v; ratios = no-ratios })
   refused-reading r = record { verdict-is = e; where-accepted = λ a. absurd (not-both (sym e ∙ r) a); where-refused = λ _. refl }
 
-  pub accepted-reading : (ratios : Ratios) → verdict-of v ≡ accepted → RatiosOf t (ratios .years) (ratios .outstandings) → ReadingOf t answers (record { verdict = v; ratios = ratios })
+  pub accepted-reading : (ratios : Ratios) → verdict-of v ≡ accepted → RatiosOf t (ratios .years) (ratios .outstandings)
+      → ReadingOf t answers (record { verdict = v; ratios = ratios })
   accepted-reading ratios a r = record { verdict-is = e; where-accepted = λ _. r; where-refused = λ f. absurd (not-both f (sym e ∙ a)) }
 
 -- a triangle that passed questions 1 to 7

@@ -1,7 +1,7 @@
 // The ratios: the three sums of every development year, and the last observed outstandings.
 ghost use mathlib.Core.Path.{_≡_};
 ghost use lib.IntN.{_+ℤ_, _*ℤ_};
-ghost use Prim.Native.Nat.{_-_};
+ghost use Prim.Native.Nat.{_-_, _≤_};
 ghost use Rattle.triangle.specs.Ratios.{Readable, RatiosRead, FirstYear, FirstOutstandings, YearInput, partial-sums, MovedOn, sums-of, Addable, with-row, Summable};
 use questions::limits::ACCIDENT_YEARS;
 use questions::limits::DEVELOPMENT_YEARS;
@@ -93,23 +93,31 @@ fn development_year<'a>(
     ensures { λ _. ⌜ MovedOn n k (now (payments .entry)) (now (adjustments .entry)) (now (outstandings .entry)) (now (outstandings .exit)) ⌝ }
 {
     let mut sums = NO_SUMS;
-    // The weights have a row less than the amounts. Each row is entered at year k of its weights and at year k + 1 of its amounts.
-    let weighted = n - 1;
+    let years = summed_years(n, k);
+    // Each row is entered at year k of its weights and at year k + 1 of its amounts. The weights have a row less.
     let mut weight_at = k - 1;
     let mut amount_at = k;
     let mut r = 0;
-    while r + k <= weighted {
+    while r < years {
         let payment = payments[amount_at];
         let adjustment = adjustments[amount_at];
         let outstanding = outstandings[r];
         sums = added(sums, weights[weight_at], payment, adjustment, outstanding);
         let next = next_outstanding(outstanding, payment, adjustment);
         outstandings[r] = next;
-        weight_at += weighted - r;
+        weight_at += n - 1 - r;
         amount_at += n - r;
         r += 1;
     }
     sums
+}
+
+// The number of accident years that the sums of development year k run over.
+fn summed_years(n: usize, k: usize) -> usize
+    requires { ⌜ k ≤ n ⌝ }
+    ensures { λ r. ⌜ r ≡ n - k ⌝ }
+{
+    n - k
 }
 
 // The sums with one accident year more.

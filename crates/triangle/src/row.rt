@@ -1,13 +1,14 @@
 // One accident year's seen figures, as the part of the lent list that they are.
 ghost use mathlib.Core.Path.{_≡_};
 ghost use Prim.Native.Nat.{_+_, _-_, _≤_};
+ghost use lib.IntN.{pos};
 ghost use lib.ListN.{take, drop};
 ghost use Rattle.method.specs.Triangle.{cells-before};
 ghost use Rattle.method.specs.Answers as meaning;
 ghost use Rattle.questions.specs.Verdicts.{verdict-of};
-ghost use Rattle.triangle.specs.Rows.{amounts-of, chosen, right-lengths, RowInside};
-use questions::inputs::from_to;
+ghost use Rattle.triangle.specs.Rows.{amounts-of, RowInside};
 use questions::inputs::question_1;
+use questions::limits::from_to;
 use questions::verdict::Verdict;
 use questions::verdict::asked;
 
@@ -28,7 +29,7 @@ pub fn row<'a>(
     ensures { λ r. ⌜ now r ≡ meaning.row years (now (payments .entry)) (now (adjustments .entry)) «accident_year» (amounts-of named) ⌝ }
 {
     let list = named_list(payments, adjustments, named);
-    let verdict = row_verdict(years, payments, adjustments, accident_year);
+    let verdict = row_verdict(years, payments, adjustments, named, accident_year);
     let Verdict::Accepted = verdict else {
         return &list[0..0];
     };
@@ -48,11 +49,12 @@ fn row_of<'a>(list: &'a [i64], n: usize, i: usize) -> &'a [i64]
     &list[start..end]
 }
 
-// The number and the place of `row` with the same arguments: questions 1, 3 of both lists, and 10.
+// The verdict on `row` with the same arguments: questions 1, 3 of both lists, and 10. Which list is named makes no difference.
 pub fn row_verdict<'a>(
     years: i64,
     payments: &'a [i64],
     adjustments: &'a [i64],
+    named: AmountList,
     accident_year: i64,
 ) -> Verdict
     ensures { λ r. ⌜ verdict-of r ≡ meaning.row-verdict years (now (payments .entry)) (now (adjustments .entry)) «accident_year» ⌝ }
@@ -70,14 +72,14 @@ pub fn row_verdict<'a>(
 
 fn both_lengths_right<'a>(n: usize, payments: &'a [i64], adjustments: &'a [i64]) -> bool
     requires { ⌜ n ≤ 32 ⌝ }
-    ensures { λ r. ⌜ r ≡ right-lengths n (now (payments .entry)) (now (adjustments .entry)) ⌝ }
+    ensures { λ r. ⌜ r ≡ meaning.both-lengths-right (pos n) (now (payments .entry)) (now (adjustments .entry)) ⌝ }
 {
     let amounts = n * (n + 1) / 2;
     (payments.len() == amounts) & (adjustments.len() == amounts)
 }
 
 fn named_list<'a>(payments: &'a [i64], adjustments: &'a [i64], named: AmountList) -> &'a [i64]
-    ensures { λ r. ⌜ now r ≡ chosen (now (payments .entry)) (now (adjustments .entry)) named ⌝ }
+    ensures { λ r. ⌜ now r ≡ meaning.named-list (now (payments .entry)) (now (adjustments .entry)) (amounts-of named) ⌝ }
 {
     match named {
         AmountList::Payments => payments,

@@ -4,32 +4,33 @@ use lib.IntN.{pos, negℤ}
 use mir.Syntax.{w64}
 use mir.Facts.{toZ-ofZ}
 use Rattle.method.specs.Limits.{greatest-figure, greatest-sum}
-use Rattle.share_benchmark.specs.ShareAnswer.{within, as-answer, share-answer}
+use Rattle.method.specs.Questions.{from-to}
+use Rattle.share_benchmark.specs.ShareAnswer.{as-answer, share-answer}
 use Rattle.share_benchmark.proofs.Ranges.{share-input}
 use borrow.Author.Needs.{needs}
 use Rattle.share_benchmark.proofs.juniperprow_share.Statement.{statement}
 use Rattle.share_benchmark.proofs.juniperprow_share.Tie as tie
 
-in-range-requires : tie.Need-in-range-requires
-in-range-requires c κs = search needs
+from-to-requires : tie.Need-from-to-requires
+from-to-requires c κs = search needs
 
-sub-in-range : tie.Need-sub-in-range
-sub-in-range c = search needs
+sub-from-to : tie.Need-sub-from-to
+sub-from-to c = search needs
 
-in-range-requires-2 : tie.Need-in-range-requires-2
-in-range-requires-2 c κs = search needs
+from-to-requires-2 : tie.Need-from-to-requires-2
+from-to-requires-2 c κs = search needs
 
-in-range-requires-3 : tie.Need-in-range-requires-3
-in-range-requires-3 c κs = search needs
+from-to-requires-3 : tie.Need-from-to-requires-3
+from-to-requires-3 c κs = search needs
 
-outstanding-test : (c : tie.After-in-range) → within (pos 0) greatest-figure (c .before .args .outstanding) ≡ c .in-range .result
-outstanding-test c = sym (simp (toZ-ofZ {w = w64} (c .before .fits .outstanding)) at (c .in-range .ensures))
+outstanding-test : (c : tie.After-from-to) → from-to (pos 0) greatest-figure (c .before .args .outstanding) ≡ c .from-to .result
+outstanding-test c = sym (simp (toZ-ofZ {w = w64} (c .before .fits .outstanding)) at (c .from-to .ensures))
 
-part-test : (c : tie.After-in-range2) → within (negℤ (pos greatest-sum)) (pos greatest-sum) (c .before .before .before .args .part) ≡ c .in-range2 .result
-part-test c = sym (simp (toZ-ofZ {w = w64} (c .before .before .before .fits .part)) at (c .in-range2 .ensures))
+part-test : (c : tie.After-from-to2) → from-to (negℤ (pos greatest-sum)) (pos greatest-sum) (c .before .before .before .args .part) ≡ c .from-to2 .result
+part-test c = sym (simp (toZ-ofZ {w = w64} (c .before .before .before .fits .part)) at (c .from-to2 .ensures))
 
-exposure-test : (c : tie.After-in-range3) → within (pos 1) (pos greatest-sum) (c .before .before .before .before .before .args .exposure) ≡ c .in-range3 .result
-exposure-test c = sym (simp (toZ-ofZ {w = w64} (c .before .before .before .before .before .fits .exposure)) at (c .in-range3 .ensures))
+exposure-test : (c : tie.After-from-to3) → from-to (pos 1) (pos greatest-sum) (c .before .before .before .before .before .args .exposure) ≡ c .from-to3 .result
+exposure-test c = sym (simp (toZ-ofZ {w = w64} (c .before .before .before .before .before .fits .exposure)) at (c .from-to3 .ensures))
 
 rounded-share-requires : tie.Need-rounded-share-requires
 rounded-share-requires c κs =
@@ -39,8 +40,8 @@ rounded-share-requires c κs =
     (part-test (c .before .before .before) ∙ c .before .before .if2 .taken)
     (exposure-test (c .before) ∙ c .if3 .taken))
 
-told-requires : tie.Need-told-requires
-told-requires c κs = search needs
+answer-of-requires : tie.Need-answer-of-requires
+answer-of-requires c κs = search needs
 
 returns : tie.Need-returns
 unfolding share-answer
@@ -53,7 +54,7 @@ returns c =
       part-test (c .before .before .before .before .before) ∙ c .before .before .before .before .if2 .taken,
       exposure-test (c .before .before .before) ∙ c .before .before .if3 .taken,
     )
-    (c .told .ensures ∙ ap as-answer answer)
+    (c .answer-of .ensures ∙ ap as-answer answer)
 
 returns-2 : tie.Need-returns-2
 unfolding share-answer
@@ -76,12 +77,12 @@ pub juniperprow-share-spec : {M : Type 1} → statement M
 juniperprow-share-spec =
     tie.close
     (tie.spec
-    in-range-requires
-    sub-in-range
-    in-range-requires-2
-    in-range-requires-3
+    from-to-requires
+    sub-from-to
+    from-to-requires-2
+    from-to-requires-3
     rounded-share-requires
-    told-requires
+    answer-of-requires
     returns
     returns-2
     returns-3

@@ -5,9 +5,10 @@ use lib.ListN.{length}
 use Rattle.method.specs.Questions.{each-cell}
 use Rattle.method.proofs.Rows.{part-length}
 use Rattle.questions.specs.Cells.{row-of-list, whole-list}
+use Rattle.method.proofs.FirstRefusal.{next-refused, all-accepted}
 use Rattle.questions.specs.Verdicts.{verdict-of}
 use Rattle.questions.proofs.CellTests.{rows-of-list, row-as-part}
-use Rattle.questions.proofs.RowWalk.{RowsPassed, before-first-row, row-end-inside, before-next-row, row-refused, no-row-refused, part-is-row}
+use Rattle.questions.proofs.RowWalk.{RowsPassed, before-first-row, row-end-inside, before-next-row, part-is-row}
 use borrow.Author.Needs.{needs}
 use native.Mathlib.Omega.{arith}
 use Rattle.questions.proofs.cells.first_refusal.Statement.{statement}
@@ -49,7 +50,8 @@ part-first-refusal-in-row-end c = let l = inside c in search needs
 
 first-refusal-in-row-requires : tie.Need-first-refusal-in-row-requires Inv-loop μ-loop
 first-refusal-in-row-requires c κs =
-    let l = part-length (c .before .before .before .args .n) (c .before .before .loop .r) (c .before .before .before .args .list .now) (omega arith) (c .before .before .before .pre .1) in
+    let l = part-length (c .before .before .before .args .n) (c .before .before .loop .r) (c .before .before .before .args .list .now)
+    (omega arith) (c .before .before .before .pre .1) in
     (search needs, rw (part-is-row (c .before .before .loop .inv) (c .before .before .before .args .list .now)) (omega arith))
 
 -- its verdict
@@ -70,7 +72,7 @@ returns : tie.Need-returns Inv-loop μ-loop
 unfolding whole-list each-cell
 returns c =
     let e = ap verdict-of (c .enum-told2 .given .1) in
-    e ∙ sym (row-refused (c .before .before .before .before .before .loop .inv) (omega arith) (sym (row (c .before .before)) ∙ e))
+    e ∙ sym (next-refused (c .before .before .before .before .before .loop .inv .so-far) (omega arith) (sym (row (c .before .before)) ∙ e))
 
 add-r : tie.Need-add-r Inv-loop μ-loop
 add-r c = search needs
@@ -85,7 +87,7 @@ loop-again c =
 
 returns-2 : tie.Need-returns-2 Inv-loop μ-loop
 unfolding whole-list each-cell
-returns-2 c = sym (no-row-refused (c .before .loop .inv) (omega arith))
+returns-2 c = sym (all-accepted (c .before .loop .inv .so-far) (omega arith))
 
 pub first-refusal-spec : {M : Type 1} → statement M
 first-refusal-spec =

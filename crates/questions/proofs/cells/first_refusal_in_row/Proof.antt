@@ -1,29 +1,28 @@
 -- A scan of one row, cell by cell.
 use mathlib.Core.Path.{_≡_, ap, sym, _∙_}
-use Prim.Native.Nat.{ℕ, _+_, _-_, _≤_}
+use Prim.Native.Nat.{_+_, _-_}
 use native.Mathlib.Omega.{arith}
 use lib.IntN.{ℤ, pos}
 use lib.ListN.{length, getD}
 use mir.Syntax.{w64}
 use mir.Facts.{toZ-ofZ}
-use Rattle.method.specs.Questions.{accepted, refused, at, first-to}
-use Rattle.method.proofs.FirstRefusal.{first-none, first-goes-on, first-stops}
+use Rattle.method.specs.Questions.{refused, at}
+use Rattle.method.proofs.FirstRefusal.{PassedSoFar, none-asked, next-accepted, next-refused, all-accepted}
 use Rattle.questions.specs.Cells.{passes, cell-of-row, row-of-list}
 use Rattle.questions.proofs.CellTests.{cell-passed, cell-refused}
 use borrow.Author.Needs.{needs}
 use borrow.Author.Tests.{not-true, not-false}
-use native.Mathlib.Omega.{arith}
 use Rattle.questions.proofs.cells.first_refusal_in_row.Statement.{statement}
 use Rattle.questions.proofs.cells.first_refusal_in_row.Tie as tie
 
 abbrev Inv-loop : tie.InvT-loop
-Inv-loop test cut i row j₀ j = (j ≤ length row) × (first-to j (cell-of-row test cut i row) ≡ accepted)
+Inv-loop test cut i row j₀ j = PassedSoFar (length row) (cell-of-row test cut i row) j
 
 abbrev μ-loop : tie.MeasureT-loop
 μ-loop test cut i row j₀ j = length row - j
 
 loop-holds : tie.Need-loop-holds Inv-loop μ-loop
-loop-holds c = (search needs, first-none _)
+loop-holds c = none-asked _ _
 
 add-cell-passes : tie.Need-add-cell-passes Inv-loop μ-loop
 add-cell-passes c = search needs
@@ -56,9 +55,12 @@ refusal-at-requires c κs = search needs
 returns : tie.Need-returns Inv-loop μ-loop
 unfolding row-of-list
 returns c =
-    let t = tested (c .before .before .before) in
-    let l = c .before .before .before .before .before .before .loop in
-    c .refusal-at .ensures ∙ sym (first-stops (l .j) _ _ (l .inv .1) (cell-refused _ _ _ _ _ (sym t ∙ not-true _ (c .before .before .if1 .taken)) ∙ ap (λ q. refused q (at (c .before .before .before .before .before .before .before .args .i) (l .j + 1))) (sym (c .before .number .ensures))) (omega arith))
+    let start = c .before .before .before .before .before .before .before in
+    let loop = c .before .before .before .before .before .before .loop in
+    let failed = sym (tested (c .before .before .before)) ∙ not-true _ (c .before .before .if1 .taken) in
+    let numbered = ap (λ q. refused q (at (start .args .i) (loop .j + 1))) (sym (c .before .number .ensures)) in
+    c .refusal-at .ensures
+    ∙ sym (next-refused (loop .inv) (omega arith) (cell-refused _ _ _ _ _ failed ∙ numbered))
 
 add-j : tie.Need-add-j Inv-loop μ-loop
 add-j c = search needs
@@ -68,14 +70,12 @@ loop-less c = search needs
 
 loop-again : tie.Need-loop-again Inv-loop μ-loop
 loop-again c =
-    let t = tested (c .before) in
-    (search needs, first-goes-on _ _ (c .before .before .before .before .loop .inv .1) ∙ cell-passed _ _ _ _ _ (sym t ∙ not-false _ (c .if1 .left)))
+    let passed = sym (tested (c .before)) ∙ not-false _ (c .if1 .left) in
+    next-accepted (c .before .before .before .before .loop .inv) (omega arith) (cell-passed _ _ _ _ _ passed)
 
 returns-2 : tie.Need-returns-2 Inv-loop μ-loop
 unfolding row-of-list
-returns-2 c =
-    let whole : c .before .loop .j ≡ length (c .before .before .args .row .now) = omega arith in
-    sym (c .before .loop .inv .1) ∙ ap (λ (x : ℕ). first-to x (cell-of-row (c .before .before .args .test) (c .before .before .args .cut) (c .before .before .args .i) (c .before .before .args .row .now))) whole
+returns-2 c = sym (all-accepted (c .before .loop .inv) (omega arith))
 
 pub first-refusal-in-row-spec : {M : Type 1} → statement M
 first-refusal-in-row-spec =

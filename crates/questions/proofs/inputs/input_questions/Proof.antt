@@ -45,7 +45,8 @@ same-triangle : (c : tie.After-enum-told3) → let s = c .before .before .before
     ≡ counted (natAbs (s .args .years)) (natAbs (s .args .cut)) (s .args .payments .now) (s .args .adjustments .now) (s .args .weights .now) (s .args .openings .now)
 same-triangle c =
     let s = c .before .before .before .before .before .before in
-    counted-is (s .args .years) (s .args .cut) (s .args .payments .now) (s .args .adjustments .now) (s .args .weights .now) (s .args .openings .now) (years c) (cut c)
+    counted-is (s .args .years) (s .args .cut) (s .args .payments .now) (s .args .adjustments .now) (s .args .weights .now)
+    (s .args .openings .now) (years c) (cut c)
 
 -- question 3
 right : (c : tie.After-lists-right) → let s = c .before .before .before .before .before .before .before in c .lists-right .result ≡ lists-right
@@ -97,10 +98,12 @@ unfolding input-questions
 returns-2 c = went-on (passed-one (c .before .before .before)) (stopped _ (two (c .before .before)) (ap verdict-of (c .enum-told4 .given .1)))
 
 cast-n : tie.Need-cast-n
-cast-n c = simp (toZ-ofZ (c .before .before .before .before .before .before .fits .years)) (count-fits (c .before .before .before .before .before .before .args .years) (years c .counted) (years c .most))
+cast-n c = simp (toZ-ofZ (c .before .before .before .before .before .before .fits .years))
+    (count-fits (c .before .before .before .before .before .before .args .years) (years c .counted) (years c .most))
 
 cast-y : tie.Need-cast-y
-cast-y c = simp (toZ-ofZ (c .before .before .before .before .before .before .fits .cut)) (count-fits (c .before .before .before .before .before .before .args .cut) (cut c .counted) (omega (arith, years c .most, cut c .most)))
+cast-y c = simp (toZ-ofZ (c .before .before .before .before .before .before .fits .cut))
+    (count-fits (c .before .before .before .before .before .before .args .cut) (cut c .counted) (omega (arith, years c .most, cut c .most)))
 
 lists-right-requires : tie.Need-lists-right-requires
 lists-right-requires c κs =
@@ -118,7 +121,8 @@ enum-told-6 c = search needs
 
 returns-3 : tie.Need-returns-3
 unfolding input-questions
-returns-3 c = went-on (passed-one (c .before .before .before .before .before .before .before)) (went-on (passed-two (c .before .before .before .before)) (stopped _ (three (c .before .before)) (ap verdict-of (c .enum-told6 .given .1))))
+returns-3 c = went-on (passed-one (c .before .before .before .before .before .before .before))
+    (went-on (passed-two (c .before .before .before .before)) (stopped _ (three (c .before .before)) (ap verdict-of (c .enum-told6 .given .1))))
 
 list-questions-requires : tie.Need-list-questions-requires
 list-questions-requires c κs =
@@ -132,7 +136,9 @@ unfolding input-questions
 returns-4 c =
     let s = c .before .before .before .before .before .before .before .before .before .before .before in
     let asked = simp (toZ-ofZ (s .fits .years), toZ-ofZ (s .fits .cut)) at (c .list-questions .ensures) in
-    went-on (passed-one (c .before .before .before .before .before .before .before .before)) (went-on (passed-two (c .before .before .before .before .before)) (went-on (passed-three (c .before)) (asked ∙ ap list-questions (sym (same-triangle (c .before .before .before .before .before))))))
+    went-on (passed-one (c .before .before .before .before .before .before .before .before))
+    (went-on (passed-two (c .before .before .before .before .before))
+    (went-on (passed-three (c .before)) (asked ∙ ap list-questions (sym (same-triangle (c .before .before .before .before .before))))))
 
 pub input-questions-spec : {M : Type 1} → statement M
 input-questions-spec =

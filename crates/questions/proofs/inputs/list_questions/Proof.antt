@@ -91,18 +91,21 @@ enum-told-6 c = search needs
 
 returns-3 : tie.Need-returns-3
 unfolding list-questions
-returns-3 c = went-on (passed-four (c .before .before .before .before .before .before)) (went-on (passed-five (c .before .before .before)) (stopped _ (six (c .before .before)) (ap verdict-of (c .enum-told6 .given .1))))
+returns-3 c = went-on (passed-four (c .before .before .before .before .before .before))
+    (went-on (passed-five (c .before .before .before)) (stopped _ (six (c .before .before)) (ap verdict-of (c .enum-told6 .given .1))))
 
 sub-first-refusal-2 : tie.Need-sub-first-refusal-2
 sub-first-refusal-2 c = search needs
 
 first-refusal-requires-2 : tie.Need-first-refusal-requires-2
-first-refusal-requires-2 c κs = let s = c .before .before .before .before .before .before .before .before .before in (search needs, s .pre .weights-length-right ∙ weights-length-is (s .args .n) (omega arith))
+first-refusal-requires-2 c κs = let s = c .before .before .before .before .before .before .before .before .before in
+    (search needs, s .pre .weights-length-right ∙ weights-length-is (s .args .n) (omega arith))
 
 returns-4 : tie.Need-returns-4
 unfolding list-questions
 returns-4 c =
-    went-on (passed-four (c .before .before .before .before .before .before .before)) (went-on (passed-five (c .before .before .before .before)) (went-on (passed-six (c .before))
+    went-on (passed-four (c .before .before .before .before .before .before .before))
+    (went-on (passed-five (c .before .before .before .before)) (went-on (passed-six (c .before))
     (c .first-refusal2 .ensures ∙ question-7-is (triangle (c .before .before .before .before .before .before .before .before .before .before)))))
 
 pub list-questions-spec : {M : Type 1} → statement M

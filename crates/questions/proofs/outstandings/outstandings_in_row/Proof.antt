@@ -47,7 +47,11 @@ next-outstanding-requires : tie.Need-next-outstanding-requires Inv-loop μ-loop
 next-outstanding-requires c κs =
     let a = c .before .before .before .before in
     let s = state (c .before .before) in
-    simp (held (getD (a .args .payments .now) (c .before .before .before .loop .j) (pos 0)) (c .before .next-outstanding-arg .given), held (getD (a .args .adjustments .now) (c .before .before .before .loop .j) (pos 0)) (c .next-outstanding-arg2 .given))
+    simp (
+      held (getD (a .args .payments .now) (c .before .before .before .loop .j) (pos 0)) (c .before .next-outstanding-arg .given),
+      held
+          (getD (a .args .adjustments .now) (c .before .before .before .loop .j) (pos 0)) (c .next-outstanding-arg2 .given),
+    )
     (movable _ _ _ _ _ (a .pre) _ _ s (omega arith))
 
 -- the outstanding of the next year, and its test
@@ -60,7 +64,11 @@ moved c =
     let a = c .before .before .before .before .before .args in
     let l = c .before .before .before .before .loop in
     held (c .next-outstanding .result) (c .next-outstanding .ok)
-    ∙ (simp (held (getD (a .payments .now) (l .j) (pos 0)) (c .before .before .next-outstanding-arg .given), held (getD (a .adjustments .now) (l .j) (pos 0)) (c .before .next-outstanding-arg2 .given))
+    ∙ (simp (
+      held (getD (a .payments .now) (l .j) (pos 0)) (c .before .before .next-outstanding-arg .given),
+      held
+          (getD (a .adjustments .now) (l .j) (pos 0)) (c .before .next-outstanding-arg2 .given),
+    )
     at (c .next-outstanding .ensures))
 
 tested : (c : tie.After-outstanding-in-range Inv-loop μ-loop) →
@@ -98,7 +106,8 @@ loop-again : tie.Need-loop-again Inv-loop μ-loop
 loop-again c =
     let s = c .before .before .before .before .before .before .before in
     simp (toZ-ofZ {w = w64} (s .fits .opening))
-    (next-year-passed _ _ _ _ _ (s .pre) _ _ (state (c .before .before .before .before .before)) (omega arith) _ (moved (c .before .before)) (sym (tested (c .before)) ∙ not-false _ (c .if1 .left)))
+    (next-year-passed _ _ _ _ _ (s .pre) _ _ (state (c .before .before .before .before .before)) (omega arith) _
+    (moved (c .before .before)) (sym (tested (c .before)) ∙ not-false _ (c .if1 .left)))
 
 returns-2 : tie.Need-returns-2 Inv-loop μ-loop
 returns-2 c =

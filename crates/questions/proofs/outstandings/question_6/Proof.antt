@@ -7,9 +7,10 @@ use mir.Syntax.{w64}
 use mir.Val.{toZ, ofZ}
 use Rattle.integers.proofs.MachineArithmetic.{held}
 use Rattle.method.specs.Triangle.{amounts-length, entry}
+use Rattle.method.proofs.FirstRefusal.{next-refused, all-accepted}
 use Rattle.questions.specs.Verdicts.{verdict-of}
 use Rattle.questions.specs.Observed.{outstandings-of-year, all-outstandings}
-use Rattle.questions.proofs.RowWalk.{RowsPassed, before-first-row, row-end-inside, before-next-row, row-refused, no-row-refused, part-is-row}
+use Rattle.questions.proofs.RowWalk.{RowsPassed, before-first-row, row-end-inside, before-next-row, part-is-row}
 use Rattle.questions.proofs.ObservedRows.{outstandings-of-row, row-right}
 use Rattle.questions.proofs.outstandings.question_6.Statement.{statement}
 use Rattle.questions.proofs.outstandings.question_6.Tie as tie
@@ -28,7 +29,8 @@ inside : (c : tie.In-loop Inv-loop μ-loop) → c .before .loop .start + (c .bef
 inside c = row-end-inside (c .before .loop .inv) (omega arith)
 
 -- it starts from its opening
-opened : (c : tie.After-opening-of Inv-loop μ-loop) → toZ w64 (ofZ w64 (c .opening-of .result)) ≡ entry (c .before .before .before .args .openings .now) (suc (c .before .before .loop .r))
+opened : (c : tie.After-opening-of Inv-loop μ-loop) → toZ w64 (ofZ w64 (c .opening-of .result)) ≡ entry
+    (c .before .before .before .args .openings .now) (suc (c .before .before .loop .r))
 opened c = held (c .opening-of .result) (c .opening-of .ok) ∙ c .opening-of .ensures
 
 -- its verdict
@@ -81,7 +83,8 @@ outstandings-in-row-requires : tie.Need-outstandings-in-row-requires Inv-loop μ
 outstandings-in-row-requires c κs =
     let s = c .before .before .before .before .before in
     let w = c .before .before .before .before .loop .inv in
-    simp (opened (c .before .before), part-is-row w (s .args .payments .now), part-is-row w (s .args .adjustments .now)) (row-right _ _ _ _ _ (s .pre) _ (omega arith))
+    simp (opened (c .before .before), part-is-row w (s .args .payments .now), part-is-row w (s .args .adjustments .now))
+    (row-right _ _ _ _ _ (s .pre) _ (omega arith))
 
 enum-told : tie.Need-enum-told Inv-loop μ-loop
 enum-told c = search needs
@@ -93,7 +96,7 @@ returns : tie.Need-returns Inv-loop μ-loop
 unfolding all-outstandings
 returns c =
     let e = ap verdict-of (c .enum-told2 .given .1) in
-    e ∙ sym (row-refused (c .before .before .before .before .before .before .before .loop .inv) (omega arith) (sym (row (c .before .before)) ∙ e))
+    e ∙ sym (next-refused (c .before .before .before .before .before .before .before .loop .inv .so-far) (omega arith) (sym (row (c .before .before)) ∙ e))
 
 add-r : tie.Need-add-r Inv-loop μ-loop
 add-r c = search needs
@@ -103,11 +106,12 @@ loop-less c = search needs
 
 loop-again : tie.Need-loop-again Inv-loop μ-loop
 loop-again c =
-    before-next-row (c .before .before .before .before .before .before .before .loop .inv) (omega arith) (sym (row (c .before .before)) ∙ ap verdict-of (c .enum-told .given .1))
+    before-next-row (c .before .before .before .before .before .before .before .loop .inv) (omega arith)
+    (sym (row (c .before .before)) ∙ ap verdict-of (c .enum-told .given .1))
 
 returns-2 : tie.Need-returns-2 Inv-loop μ-loop
 unfolding all-outstandings
-returns-2 c = sym (no-row-refused (c .before .loop .inv) (omega arith))
+returns-2 c = sym (all-accepted (c .before .loop .inv .so-far) (omega arith))
 
 pub question-6-spec : {M : Type 1} → statement M
 question-6-spec =

@@ -21,7 +21,8 @@ returns c =
     let a = c .before .before .before .before .before .before in
     same-sums
     (held _ (c .before .before .before .before .plus .ok)
-    ∙ (simp (toZ-ofZ (so-far-fits _ _ _ (a .pre .payments)), toZ-ofZ (a .fits .weight), toZ-ofZ (a .fits .payment)) at (c .before .before .before .before .plus .ensures)))
+    ∙ (simp (toZ-ofZ (so-far-fits _ _ _ (a .pre .payments)), toZ-ofZ (a .fits .weight), toZ-ofZ (a .fits .payment)) at
+    (c .before .before .before .before .plus .ensures)))
     (held _ (c .before .before .plus2 .ok)
     ∙ (simp (toZ-ofZ (so-far-fits _ _ _ (a .pre .adjustments)), toZ-ofZ (a .fits .weight), toZ-ofZ (a .fits .adjustment)) at (c .before .before .plus2 .ensures)))
     (held _ (c .plus3 .ok)

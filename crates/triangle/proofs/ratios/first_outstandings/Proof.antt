@@ -3,11 +3,11 @@ use borrow.Author.Needs.{needs}
 use mathlib.Core.Path.{_≡_, _∙_}
 use Prim.Native.Nat.{suc, _-_, _<_}
 use native.Mathlib.Omega.{arith}
-use lib.IntN.{ℤ, pos}
+use lib.IntN.{pos}
 use lib.ListN.{getD}
 use mir.Syntax.{w64}
 use mir.Val.{toZ, ofZ}
-use Rattle.integers.proofs.MachineArithmetic.{held}
+use Rattle.integers.proofs.MachineArithmetic.{Held, held}
 use Rattle.method.specs.Triangle.{amounts-length, entry}
 use Rattle.triangle.proofs.FirstYear.{Placed, none-placed, first-inside, movable, one-more-placed, all-placed}
 use Rattle.triangle.proofs.ratios.first_outstandings.Statement.{statement}
@@ -24,16 +24,20 @@ inside : (c : tie.In-loop Inv-loop μ-loop) → c .before .loop .start < amounts
 inside c = first-inside _ _ _ _ (c .before .before .pre) _ _ _ (c .before .loop .inv) (omega arith)
 
 -- what is read there
-opened : (c : tie.After-opening-of Inv-loop μ-loop) → toZ w64 (ofZ w64 (c .opening-of .result)) ≡ entry (c .before .before .before .args .openings .now) (suc (c .before .before .loop .r))
-opened c = held (c .opening-of .result) (c .opening-of .ok) ∙ c .opening-of .ensures
+abbrev start : tie.After-next-outstanding-arg2 Inv-loop μ-loop → tie.Start Inv-loop μ-loop
+start c = c .before .before .before .before .before
 
-abbrev Read : ℤ → Type 0
-Read x = toZ w64 (ofZ w64 x) ≡ x
+abbrev turn : tie.After-next-outstanding-arg2 Inv-loop μ-loop → tie.At-loop Inv-loop μ-loop
+turn c = c .before .before .before .before
 
-payment-read : (c : tie.After-next-outstanding-arg2 Inv-loop μ-loop) → Read (getD (c .before .before .before .before .before .args .payments .now) (c .before .before .before .before .loop .start) (pos 0))
+opened : (c : tie.After-next-outstanding-arg2 Inv-loop μ-loop)
+    → toZ w64 (ofZ w64 (c .before .before .opening-of .result)) ≡ entry (start c .args .openings .now) (suc (turn c .loop .r))
+opened c = held (c .before .before .opening-of .result) (c .before .before .opening-of .ok) ∙ c .before .before .opening-of .ensures
+
+payment-read : (c : tie.After-next-outstanding-arg2 Inv-loop μ-loop) → Held (getD (start c .args .payments .now) (turn c .loop .start) (pos 0))
 payment-read c = held _ (c .before .next-outstanding-arg .given)
 
-adjustment-read : (c : tie.After-next-outstanding-arg2 Inv-loop μ-loop) → Read (getD (c .before .before .before .before .before .args .adjustments .now) (c .before .before .before .before .loop .start) (pos 0))
+adjustment-read : (c : tie.After-next-outstanding-arg2 Inv-loop μ-loop) → Held (getD (start c .args .adjustments .now) (turn c .loop .start) (pos 0))
 adjustment-read c = held _ (c .next-outstanding-arg2 .given)
 
 loop-holds : tie.Need-loop-holds Inv-loop μ-loop
@@ -57,7 +61,8 @@ shared-slice-copy-out-next-outstanding-2 :
 shared-slice-copy-out-next-outstanding-2 c = omega (arith, inside (c .before .before), c .before .before .before .before .pre .adjustments-length)
 
 next-outstanding-requires : tie.Need-next-outstanding-requires Inv-loop μ-loop
-next-outstanding-requires c κs = simp (opened (c .before .before), payment-read c, adjustment-read c) (movable _ _ _ _ (c .before .before .before .before .before .pre) _ _ _ (c .before .before .before .before .loop .inv) (omega arith))
+next-outstanding-requires c κs =
+    simp (opened c, payment-read c, adjustment-read c) (movable _ _ _ _ (start c .pre) _ _ _ (turn c .loop .inv) (omega arith))
 
 mul-outstandings : tie.Need-mul-outstandings Inv-loop μ-loop
 mul-outstandings c = search needs
@@ -79,9 +84,10 @@ loop-less c = search needs
 
 loop-again : tie.Need-loop-again Inv-loop μ-loop
 loop-again c =
-    one-more-placed _ _ _ _ (c .before .before .before .before .before .before .pre) _ _ _ (c .before .before .before .before .before .loop .inv) (omega arith) _
+    let read = c .before in
+    one-more-placed _ _ _ _ (start read .pre) _ _ _ (turn read .loop .inv) (omega arith) _
     (held (c .next-outstanding .result) (c .next-outstanding .ok)
-    ∙ (simp (opened (c .before .before .before), payment-read (c .before), adjustment-read (c .before)) at (c .next-outstanding .ensures)))
+    ∙ (simp (opened read, payment-read read, adjustment-read read) at (c .next-outstanding .ensures)))
 
 returns : tie.Need-returns Inv-loop μ-loop
 returns c = all-placed _ _ _ _ (c .before .before .pre) _ _ _ (c .before .loop .inv) (omega arith)

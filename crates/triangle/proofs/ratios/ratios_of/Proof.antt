@@ -12,7 +12,8 @@ use Rattle.triangle.proofs.ratios.ratios_of.Statement.{statement}
 use Rattle.triangle.proofs.ratios.ratios_of.Tie as tie
 
 abbrev Inv-loop : tie.InvT-loop
-Inv-loop n payments adjustments weights openings years₀ outstandings₀ k₀ years outstandings k = (cut : ℕ) → YearsMade (counted n cut payments adjustments weights openings) years outstandings k
+Inv-loop n payments adjustments weights openings years₀ outstandings₀ k₀ years outstandings k = (cut : ℕ) → YearsMade
+    (counted n cut payments adjustments weights openings) years outstandings k
 
 abbrev μ-loop : tie.MeasureT-loop
 μ-loop n payments adjustments weights openings years₀ outstandings₀ k₀ years outstandings k = n - k
@@ -54,7 +55,8 @@ loop-less c = search needs
 
 loop-again : tie.Need-loop-again Inv-loop μ-loop
 loop-again c = λ cut.
-    one-more-year (triangle (c .before .before .before .before .before) cut) _ _ _ (c .before .before .before .loop .inv cut) _ _ (omega arith) (observed (c .before .before .before .before .before) .years .most)
+    one-more-year (triangle (c .before .before .before .before .before) cut) _ _ _ (c .before .before .before .loop .inv cut) _ _
+    (omega arith) (observed (c .before .before .before .before .before) .years .most)
     (c .development-year .ensures .0) (c .development-year .ensures .1)
 
 returns : tie.Need-returns Inv-loop μ-loop

@@ -36,7 +36,8 @@ read-of c =
 made : (c : tie.After-ratios-of) → RatiosOf (triangle (c .before .before .before .before)) (c .ratios-of .result .years) (c .ratios-of .result .outstandings)
 made c =
     let s = c .before .before .before .before in
-    ratios-are (s .args .years) (s .args .cut) (s .args .payments .now) (s .args .adjustments .now) (s .args .weights .now) (s .args .openings .now) (s .args .answers)
+    ratios-are (s .args .years) (s .args .cut) (s .args .payments .now) (s .args .adjustments .now) (s .args .weights .now)
+    (s .args .openings .now) (s .args .answers)
     (passed (c .before)) (c .ratios-of .result) (simp (toZ-ofZ (s .fits .years)) at (c .ratios-of .ensures))
 
 eight : (c : tie.After-question-8) → verdict-of (c .question-8 .result) ≡ question-8 (triangle (c .before .before .before .before .before .before))
@@ -63,7 +64,8 @@ returns c =
     rw (c .refused .ensures) (refused-reading _ _ _ (stopped _ (inputs (c .before .before .before)) no) no)
 
 cast-n : tie.Need-cast-n
-cast-n c = simp (toZ-ofZ (c .before .before .before .fits .years)) (count-fits (c .before .before .before .args .years) (read-of c .years .counted) (read-of c .years .most))
+cast-n c = simp (toZ-ofZ (c .before .before .before .fits .years)) (count-fits (c .before .before .before .args .years)
+    (read-of c .years .counted) (read-of c .years .most))
 
 ratios-of-requires : tie.Need-ratios-of-requires
 ratios-of-requires c κs =
@@ -92,7 +94,8 @@ returns-3 : tie.Need-returns-3
 unfolding observed-questions
 returns-3 c =
     let yes = ap verdict-of (c .enum-told3 .given .1) in
-    accepted-reading _ _ _ (went-on (passed (c .before .before .before .before .before)) (eight (c .before .before))) _ yes (made (c .before .before .before .before))
+    accepted-reading _ _ _ (went-on (passed (c .before .before .before .before .before)) (eight (c .before .before))) _ yes
+    (made (c .before .before .before .before))
 
 pub read-spec : {M : Type 1} → statement M
 read-spec =

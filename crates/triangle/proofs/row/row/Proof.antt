@@ -8,7 +8,8 @@ use Rattle.method.specs.Answers.{row-verdict}
 use Rattle.method.proofs.Rows.{RowAccepted, row-accepted}
 use Rattle.questions.specs.Verdicts.{verdict-of}
 use Rattle.questions.proofs.Counted.{count-fits}
-use Rattle.triangle.proofs.RowParts.{refused-row, accepted-row, chosen-inside}
+use Rattle.triangle.specs.Rows.{amounts-of}
+use Rattle.triangle.proofs.RowParts.{refused-row, accepted-row, inside-named-list}
 use Rattle.triangle.proofs.row.row.Statement.{statement}
 use Rattle.triangle.proofs.row.row.Tie as tie
 
@@ -48,24 +49,28 @@ part-result-end : tie.Need-part-result-end
 part-result-end c = search needs
 
 returns : tie.Need-returns
-returns c = refused-row _ _ _ _ (c .before .before .before .before .before .args .named) (sym (asked (c .before .before .before)) ∙ ap verdict-of (c .before .enum-told2 .given .1))
+returns c = refused-row _ _ _ _ (amounts-of (c .before .before .before .before .before .args .named))
+    (sym (asked (c .before .before .before)) ∙ ap verdict-of (c .before .enum-told2 .given .1))
 
 cast-row-of : tie.Need-cast-row-of
-cast-row-of c = simp (toZ-ofZ (c .before .before .before .before .fits .years)) (count-fits (c .before .before .before .before .args .years) (rows c .years-right .counted) (rows c .years-right .most))
+cast-row-of c = simp (toZ-ofZ (c .before .before .before .before .fits .years))
+    (count-fits (c .before .before .before .before .args .years) (rows c .years-right .counted) (rows c .years-right .most))
 
 cast-row-of-2 : tie.Need-cast-row-of-2
-cast-row-of-2 c = simp (toZ-ofZ (c .before .before .before .before .fits .accident-year)) (count-fits (c .before .before .before .before .args .accident-year) (rows c .counted) (omega (arith, rows c .last, rows c .years-right .most)))
+cast-row-of-2 c = simp (toZ-ofZ (c .before .before .before .before .fits .accident-year))
+    (count-fits (c .before .before .before .before .args .accident-year) (rows c .counted) (omega (arith, rows c .last, rows c .years-right .most)))
 
 row-of-requires : tie.Need-row-of-requires
 row-of-requires c κs =
     let s = c .before .before .before .before in
-    simp (toZ-ofZ (s .fits .years), toZ-ofZ (s .fits .accident-year), c .before .before .before .named-list .ensures) (chosen-inside _ _ _ _ (s .args .named) (passed c))
+    simp (toZ-ofZ (s .fits .years), toZ-ofZ (s .fits .accident-year), c .before .before .before .named-list .ensures)
+    (inside-named-list _ _ _ _ (amounts-of (s .args .named)) (passed c))
 
 returns-2 : tie.Need-returns-2
 returns-2 c =
     let s = c .before .before .before .before .before in
     (simp (toZ-ofZ (s .fits .years), toZ-ofZ (s .fits .accident-year), c .before .before .before .before .named-list .ensures) at (c .row-of .ensures))
-    ∙ accepted-row (s .args .years) _ _ (s .args .accident-year) (s .args .named) (passed (c .before))
+    ∙ accepted-row (s .args .years) _ _ (s .args .accident-year) (amounts-of (s .args .named)) (passed (c .before))
 
 pub row-spec : {M : Type 1} → statement M
 row-spec =

@@ -22,7 +22,7 @@ years : (c : tie.After-enum-told) → YearsInRange (c .before .before .before .a
 years c = years-accepted (c .before .before .before .args .years) (passed-one c)
 
 three : (c : tie.After-asked) → let s = c .before .before .before .before .before in
-    verdict-of (c .asked .result) ≡ question-3 (both-lengths-right (s .args .years) (s .args .payments .now) (s .args .adjustments .now) (s .args .accident-year))
+    verdict-of (c .asked .result) ≡ question-3 (both-lengths-right (s .args .years) (s .args .payments .now) (s .args .adjustments .now))
 unfolding question-3 both-lengths-right
 three c =
     let s = c .before .before .before .before .before in
@@ -30,7 +30,7 @@ three c =
     c .asked .ensures ∙ ap (λ b. ask b 3 nowhere) right
 
 passed-three : (c : tie.After-enum-told3) → let s = c .before .before .before .before .before .before .before in
-    question-3 (both-lengths-right (s .args .years) (s .args .payments .now) (s .args .adjustments .now) (s .args .accident-year)) ≡ accepted
+    question-3 (both-lengths-right (s .args .years) (s .args .payments .now) (s .args .adjustments .now)) ≡ accepted
 passed-three c = sym (three (c .before .before)) ∙ ap verdict-of (c .enum-told3 .given .1)
 
 ten : (c : tie.After-asked2) → let s = c .before .before .before .before .before .before .before .before .before in
@@ -55,7 +55,8 @@ unfolding row-verdict
 returns c = stopped _ (one (c .before .before)) (ap verdict-of (c .enum-told2 .given .1))
 
 cast-both-lengths-right : tie.Need-cast-both-lengths-right
-cast-both-lengths-right c = simp (toZ-ofZ (c .before .before .before .fits .years)) (count-fits (c .before .before .before .args .years) (years c .counted) (years c .most))
+cast-both-lengths-right c = simp (toZ-ofZ (c .before .before .before .fits .years))
+    (count-fits (c .before .before .before .args .years) (years c .counted) (years c .most))
 
 both-lengths-right-requires : tie.Need-both-lengths-right-requires
 both-lengths-right-requires c κs = simp (toZ-ofZ (c .before .before .before .fits .years)) (years c .most)

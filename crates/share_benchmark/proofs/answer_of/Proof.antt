@@ -5,8 +5,8 @@ use mir.Syntax.{w64}
 use mir.Val.{SFits}
 use mir.Facts.{toZ-ofZ}
 use Rattle.share.specs.declared.Share.the-variants.{Rounded, TooLarge}
-use Rattle.share_benchmark.proofs.told.Statement.{statement}
-use Rattle.share_benchmark.proofs.told.Tie as tie
+use Rattle.share_benchmark.proofs.answer_of.Statement.{statement}
+use Rattle.share_benchmark.proofs.answer_of.Tie as tie
 
 enum-known-share : tie.Need-enum-known-share
 enum-known-share c = search needs
@@ -26,5 +26,5 @@ returns-2 c =
     let same : c .before .before .args .share ≡ TooLarge = cc in
     rw same
 
-pub told-spec : {M : Type 1} → statement M
-told-spec = tie.close (tie.spec enum-known-share enum-told returns returns-2)
+pub answer-of-spec : {M : Type 1} → statement M
+answer-of-spec = tie.close (tie.spec enum-known-share enum-told returns returns-2)
