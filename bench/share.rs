@@ -119,8 +119,7 @@ fn exact_half(random: &mut Random) -> Input {
     let common_with_part = random.any_order(GREATEST_SUM / 2 / common_with_outstanding);
     let odd_of_outstanding = (random.any_order(GREATEST_FIGURE / common_with_outstanding) - 1) | 1;
     let odd_of_part = (random.any_order(GREATEST_SUM / common_with_part) - 1) | 1;
-    let outstanding = (common_with_outstanding * odd_of_outstanding).min(GREATEST_FIGURE);
-    (outstanding, random.either_sign(common_with_part * odd_of_part), 2 * common_with_outstanding * common_with_part)
+    (common_with_outstanding * odd_of_outstanding, random.either_sign(common_with_part * odd_of_part), 2 * common_with_outstanding * common_with_part)
 }
 
 fn of_any_order(random: &mut Random) -> Input {

@@ -3,7 +3,7 @@ use mathlib.Core.Path.{_≡_, refl, subst}
 use mathlib.Core.Bool.{Bool, true, not, _&&_, _||_}
 use Prim.Native.Nat.{ℕ, suc, _+_, _-_, _≤_, _<_}
 use native.Mathlib.Omega.{arith}
-use lib.Dec.{eqb, leb→le}
+use lib.Dec.{leb, eqb, leb→le}
 use lib.IntN.{ℤ, pos, negsuc, negℤ, _-ℤ_, natAbs}
 use lib.ListN.{length}
 use lib.Signed.{leZ, _≤ℤ_, _<ℤ_, leZ-yes, ltZ-yes}
@@ -12,7 +12,7 @@ use Rattle.integers.proofs.RingSolver.{con, _:-_}
 use Rattle.integers.proofs.LinearFacts.{integers, parts}
 use Rattle.integers.proofs.Order.{natAbs-≤}
 use Rattle.method.specs.Limits.{fewest-years, most-years, greatest-weight, greatest-amount, greatest-outstanding, greatest-figure}
-use Rattle.method.specs.Triangle.{Triangle, n, Y, S, T, w, missing, amounts-length, weights-length, openings-length, future-length, reserves-length}
+use Rattle.method.specs.Triangle.{Triangle, n, Y, S, T, w, amounts-length, weights-length, openings-length, future-length, reserves-length}
 use Rattle.method.specs.Outstandings.{R, sums}
 use Rattle.method.specs.ProjectedYear.{Movement, movement, year-before}
 use Rattle.method.specs.Questions.{accepted, at, nowhere, ask, each-cell, from-to, is-zero, years-in-range, cut-in-range, input-lengths-right, lengths-right, weight-in-range, amount-right, known, outstanding-in-range, unweighted, weight-allowed, exposure-positive, figures-in-range, question-1, question-2, question-3, question-4, question-5, question-6, question-7, question-8, question-9-of-year, question-9, list-questions, input-questions, observed-questions, questions}
@@ -99,10 +99,18 @@ lengths-right-true t f r e =
 
 -- ---- What questions 4 to 9 leave, cell by cell
 
--- an amount within the limit, and 0 where missing
-pub record AmountRight (t : Triangle) (amount : ℕ → ℕ → ℤ) (i k : ℕ) : Type 0 where
-  pub in-range : natAbs (amount i k) ≤ natAbs greatest-amount
-  pub zero-where-missing : i + k ≤ Y t → amount i k ≡ pos 0
+-- the amount x of cell (i, k): within the limit, and 0 where missing
+pub record AmountRight (cut i k : ℕ) (x : ℤ) : Type 0 where
+  pub in-range : natAbs x ≤ natAbs greatest-amount
+  pub zero-where-missing : i + k ≤ cut → x ≡ pos 0
+
+pub amount-right-true : (cut i k : ℕ) (x : ℤ) → (from-to (negℤ greatest-amount) greatest-amount x && (not (leb (i + k) cut) || is-zero x)) ≡ true → AmountRight cut i k x
+amount-right-true cut i k x e =
+    let both = and-true (from-to (negℤ greatest-amount) greatest-amount x) (not (leb (i + k) cut) || is-zero x) e in
+    record {
+      in-range = natAbs-≤ x (natAbs greatest-amount) .1 (from-to-true (negℤ greatest-amount) greatest-amount x (both .0));
+      zero-where-missing = λ l. is-zero-true x (unless-true (leb (i + k) cut) (is-zero x) (both .1) (leb-true (i + k) cut l));
+    }
 
 -- the figures of a projected year within the limit
 pub record FiguresInRange (m : Movement) : Type 0 where
@@ -129,22 +137,15 @@ module _ (t : Triangle) where
       from-to-true (pos 0) greatest-weight (w t i k) (each-cell-passed (n t - 1) 4 (weight-in-range t) e i k p q (omega arith))
 
   amounts-right : (amount : ℕ → ℕ → ℤ) → each-cell (n t) 5 (amount-right t amount) ≡ accepted
-      → (i k : ℕ) → 1 ≤ i → 1 ≤ k → i + k ≤ n t + 1 → AmountRight t amount i k
+      → (i k : ℕ) → 1 ≤ i → 1 ≤ k → i + k ≤ n t + 1 → AmountRight (Y t) i k (amount i k)
   unfolding amount-right
-  amounts-right amount e i k p q h =
-      let in-range : Bool = from-to (negℤ greatest-amount) greatest-amount (amount i k) in
-      let both = and-true in-range (not (missing t i k) || is-zero (amount i k)) (each-cell-passed (n t) 5 (amount-right t amount) e i k p q h) in
-      record {
-        in-range = natAbs-≤ (amount i k) (natAbs greatest-amount) .1 (from-to-true (negℤ greatest-amount) greatest-amount (amount i k) (both .0));
-        zero-where-missing = λ l. is-zero-true (amount i k)
-            (unless-true (missing t i k) (is-zero (amount i k)) (both .1) (leb-true (i + k) (Y t) l));
-      }
+  amounts-right amount e i k p q h = amount-right-true (Y t) i k (amount i k) (each-cell-passed (n t) 5 (amount-right t amount) e i k p q h)
 
-  pub payments-right : question-5 t ≡ accepted → (i k : ℕ) → 1 ≤ i → 1 ≤ k → i + k ≤ n t + 1 → AmountRight t (S t) i k
+  pub payments-right : question-5 t ≡ accepted → (i k : ℕ) → 1 ≤ i → 1 ≤ k → i + k ≤ n t + 1 → AmountRight (Y t) i k (S t i k)
   unfolding question-5
   payments-right e = amounts-right (S t) (then-accepted _ _ e .0)
 
-  pub adjustments-right : question-5 t ≡ accepted → (i k : ℕ) → 1 ≤ i → 1 ≤ k → i + k ≤ n t + 1 → AmountRight t (T t) i k
+  pub adjustments-right : question-5 t ≡ accepted → (i k : ℕ) → 1 ≤ i → 1 ≤ k → i + k ≤ n t + 1 → AmountRight (Y t) i k (T t i k)
   unfolding question-5
   adjustments-right e = amounts-right (T t) (then-accepted _ _ e .1)
 
@@ -190,8 +191,8 @@ pub record Observed (t : Triangle) : Type 0 where
   pub cut : CutInRange (t .cut) (n t)
   pub lengths : InputLengths t
   pub weight : (i k : ℕ) → 1 ≤ i → 1 ≤ k → i + k ≤ n t → (pos 0 ≤ℤ w t i k) × (w t i k ≤ℤ greatest-weight)
-  pub payment : (i k : ℕ) → 1 ≤ i → 1 ≤ k → i + k ≤ n t + 1 → AmountRight t (S t) i k
-  pub adjustment : (i k : ℕ) → 1 ≤ i → 1 ≤ k → i + k ≤ n t + 1 → AmountRight t (T t) i k
+  pub payment : (i k : ℕ) → 1 ≤ i → 1 ≤ k → i + k ≤ n t + 1 → AmountRight (Y t) i k (S t i k)
+  pub adjustment : (i k : ℕ) → 1 ≤ i → 1 ≤ k → i + k ≤ n t + 1 → AmountRight (Y t) i k (T t i k)
   pub outstanding : (i k : ℕ) → 1 ≤ i → 1 ≤ k → i + k ≤ n t + 1 → Y t ≤ i + k → (pos 0 ≤ℤ R t i k) × (R t i k ≤ℤ greatest-outstanding)
   pub unweighted : (i k : ℕ) → 1 ≤ i → 1 ≤ k → i + k ≤ n t → i + k ≤ Y t → w t i k ≡ pos 0
 

@@ -38,7 +38,7 @@ module _ (t : Triangle) where
 
   -- up to year Y − i, at which the opening stands; it wants only what question 5 leaves, so it holds before question 6 is asked
   pub R-is-opening : Y t < n t
-      → ((i k : ℕ) → 1 ≤ i → 1 ≤ k → i + k ≤ n t + 1 → AmountRight t (S t) i k) → ((i k : ℕ) → 1 ≤ i → 1 ≤ k → i + k ≤ n t + 1 → AmountRight t (T t) i k)
+      → ((i k : ℕ) → 1 ≤ i → 1 ≤ k → i + k ≤ n t + 1 → AmountRight (Y t) i k (S t i k)) → ((i k : ℕ) → 1 ≤ i → 1 ≤ k → i + k ≤ n t + 1 → AmountRight (Y t) i k (T t i k))
       → (i k : ℕ) → 1 ≤ i → i + k ≤ Y t → R t i k ≡ entry (t .openings) i
   unfolding R
   R-is-opening c paid adjusted i zero p h = refl

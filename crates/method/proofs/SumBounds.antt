@@ -9,7 +9,7 @@ use lib.Signed.{_≤ℤ_, ≤ℤ-refl}
 use Rattle.integers.proofs.LinearFacts.{integers}
 use Rattle.integers.proofs.Order.{*ℤ-nonneg, natAbs-by, natAbs-≤, natAbs-*ℤ-≤}
 use Rattle.integers.proofs.RingSolver.{con}
-use Rattle.method.specs.Limits.{most-years, greatest-weight, greatest-amount, greatest-outstanding, greatest-term, greatest-sum}
+use Rattle.method.specs.Limits.{most-ratios, greatest-weight, greatest-amount, greatest-outstanding, greatest-term, greatest-sum}
 use Rattle.method.specs.Counting.{sum-to}
 use Rattle.method.specs.Triangle.{Triangle, n, Y, S, T, w}
 use Rattle.method.specs.Outstandings.{Sums, R, sums}
@@ -23,6 +23,10 @@ pub record SumsInRange (s : Sums) : Type 0 where
   pub D-nonneg : pos 0 ≤ℤ s .D
   pub D-most : s .D ≤ℤ pos greatest-sum
   pub factor-nonneg : pos 0 ≤ℤ (s .D -ℤ s .P +ℤ s .Q)
+
+-- a sum of so few terms, each of its greatest size at most
+pub few-terms : (m : ℕ) (f : ℕ → ℤ) → m ≤ most-ratios → ((i : ℕ) → 1 ≤ i → i ≤ m → natAbs (f i) ≤ greatest-term) → natAbs (sum-to m f) ≤ greatest-sum
+few-terms m f few h = le-trans (sum-natAbs m greatest-term f h) (mul-le-mul-right greatest-term few)
 
 -- The numerator of the outstanding factor is the weighted sum of the next outstandings.
 pub factor-is : (t : Triangle) (k : ℕ) → sums t k .D -ℤ sums t k .P +ℤ sums t k .Q ≡ sum-to (n t - k) (λ i. w t i k *ℤ R t i (suc k))
@@ -51,18 +55,16 @@ module _ (t : Triangle) (ok : Observed t) where
           let z : w t i k *ℤ R t i l ≡ pos 0 = ap (λ x. x *ℤ R t i l) (ok .unweighted i k p q h (omega arith)) ∙ zero-*ℤ (R t i l) in
           (subst (λ (x : ℤ). pos 0 ≤ℤ x) (sym z) (≤ℤ-refl (pos 0)), subst (λ (x : ℤ). natAbs x ≤ greatest-term) (sym z) (omega arith))
 
-  few-terms : (k : ℕ) (f : ℕ → ℤ) → 1 ≤ k → ((i : ℕ) → 1 ≤ i → i ≤ n t - k → natAbs (f i) ≤ greatest-term) → natAbs (sum-to (n t - k) f) ≤ greatest-sum
-  few-terms k f q h =
-      let few : n t - k ≤ natAbs most-years - 1 = omega (arith, ok .years .most) in
-      le-trans (sum-natAbs (n t - k) greatest-term f h) (mul-le-mul-right greatest-term few)
-
   module _ (k : ℕ) (q : 1 ≤ k) (l : k < n t) where
+    few : n t - k ≤ most-ratios
+    few = omega (arith, ok .years .most)
+
     payments-size : natAbs (sum-to (n t - k) (λ i. w t i k *ℤ S t i (suc k))) ≤ greatest-sum
-    payments-size = few-terms k (λ i. w t i k *ℤ S t i (suc k)) q
+    payments-size = few-terms (n t - k) (λ i. w t i k *ℤ S t i (suc k)) few
         (λ i a b. weighted-amount i k (S t i (suc k)) a q (omega arith) (ok .payment i (suc k) a (omega arith) (omega arith) .in-range))
 
     adjustments-size : natAbs (sum-to (n t - k) (λ i. w t i k *ℤ T t i (suc k))) ≤ greatest-sum
-    adjustments-size = few-terms k (λ i. w t i k *ℤ T t i (suc k)) q
+    adjustments-size = few-terms (n t - k) (λ i. w t i k *ℤ T t i (suc k)) few
         (λ i a b. weighted-amount i k (T t i (suc k)) a q (omega arith) (ok .adjustment i (suc k) a (omega arith) (omega arith) .in-range))
 
     -- the outstandings of year k, or of year k + 1
@@ -71,7 +73,7 @@ module _ (t : Triangle) (ok : Observed t) where
         (λ i c d. weighted-outstanding i k m c q (omega arith) a (omega arith) .0)
 
     exposure-size : natAbs (sum-to (n t - k) (λ i. w t i k *ℤ R t i k)) ≤ greatest-sum
-    exposure-size = few-terms k (λ i. w t i k *ℤ R t i k) q (λ i a b. weighted-outstanding i k k a q (omega arith) (omega arith) (omega arith) .1)
+    exposure-size = few-terms (n t - k) (λ i. w t i k *ℤ R t i k) few (λ i a b. weighted-outstanding i k k a q (omega arith) (omega arith) (omega arith) .1)
 
     pub sums-in-range : SumsInRange (sums t k)
     unfolding sums

@@ -9,6 +9,7 @@ use lib.IntN.{ℤ, pos, natAbs}
 use lib.Signed.{nonNeg}
 use mir.Syntax.{w64}
 use mir.Val.{Fits}
+use Rattle.method.specs.Limits.{most-accident-years}
 use Rattle.method.specs.Triangle.{Triangle, n, reserves-length}
 use Rattle.method.specs.Questions.{input-lengths-right, lengths-right}
 use Rattle.method.proofs.Tests.{and-true}
@@ -18,7 +19,7 @@ use Rattle.questions.specs.declared.inputs.AnswerLists.the-variants.{Not
 use Rattle.questions.specs.Lent.{lent, counted, lists-right, ListsLent}
 
 -- a count as the code casts it
-pub count-fits : (z : ℤ) → z ≡ pos (natAbs z) → natAbs z ≤ 32 → T (nonNeg z) × Fits w64 (natAbs z)
+pub count-fits : (z : ℤ) → z ≡ pos (natAbs z) → natAbs z ≤ most-accident-years → T (nonNeg z) × Fits w64 (natAbs z)
 count-fits z e h = (subst (λ (x : ℤ). T (nonNeg x)) (sym e) tt, record { fits = omega arith })
 
 -- where question 3 was answered yes

@@ -8,40 +8,32 @@ use native.Mathlib.Numerals.{add-one}
 use native.Mathlib.Decide.{decLe}
 use native.Mathlib.Omega.{arith}
 use lib.Dec.{leb}
-use lib.IntN.{ℤ, pos, negℤ, _+ℤ_, _-ℤ_, natAbs}
+use lib.IntN.{ℤ, pos, _+ℤ_, _-ℤ_, natAbs}
 use lib.ListN.{length, getD}
 use mir.Syntax.{w64}
 use mir.Val.{SFits}
 use Rattle.integers.proofs.Difference.{fits→parts}
 use Rattle.integers.proofs.RingSolver.{con, _:+_, _:-_}
 use Rattle.integers.proofs.LinearFacts.{integers, fits-by}
-use Rattle.integers.proofs.Order.{natAbs-parts, natAbs-by, natAbs-≤}
-use Rattle.method.specs.Limits.{greatest-amount, greatest-outstanding}
+use Rattle.integers.proofs.Order.{natAbs-parts, natAbs-by}
+use Rattle.method.specs.Limits.{greatest-outstanding}
 use Rattle.method.specs.Triangle.{entry}
-use Rattle.method.specs.Questions.{accepted, refused, at, from-to, is-zero}
-use Rattle.method.proofs.Tests.{and-true, unless-true, from-to-true, is-zero-true, leb-true}
+use Rattle.method.specs.Questions.{accepted, refused, at, from-to}
+use Rattle.method.proofs.Tests.{unless-true, from-to-true, leb-true}
+use Rattle.method.proofs.QuestionFacts as facts
 use Rattle.method.proofs.FirstRefusal.{ask-yes, ask-no, ask-accepted, PassedSoFar, none-asked, next-accepted, next-refused, all-accepted, first-accepted}
 use Rattle.questions.specs.declared.cells.CellTest.the-variants.{AmountRight}
-use Rattle.questions.specs.Cells.{empty-where-missing, cell-of-row, row-of-list}
+use Rattle.questions.specs.Cells.{cell-of-row, row-of-list}
 use Rattle.questions.specs.Observed.{in-range-where-known, row-outstanding, year-of-row, row-of-outstandings, Movable, RowRight}
 
 -- ---- What question 5 leaves of a row
 
-pub record AmountInRow (cut i : ℕ) (row : List ℤ) (j : ℕ) : Type 0 where
-  pub in-range : natAbs (getD row j (pos 0)) ≤ natAbs greatest-amount
-  pub zero-where-missing : i + (j + 1) ≤ cut → getD row j (pos 0) ≡ pos 0
-
-pub amount-in-row : (cut i : ℕ) (row : List ℤ) → row-of-list AmountRight cut i row ≡ accepted → (j : ℕ) → j < length row → AmountInRow cut i row j
+amount-in-row : (cut i : ℕ) (row : List ℤ) → row-of-list AmountRight cut i row ≡ accepted
+    → (j : ℕ) → j < length row → facts.AmountRight cut i (suc j) (getD row j (pos 0))
 unfolding row-of-list cell-of-row entry
 amount-in-row cut i row e j l =
-    let x : ℤ = getD row j (pos 0) in
-    let asked : cell-of-row AmountRight cut i row (suc j) ≡ accepted = first-accepted (length row)
-    (cell-of-row AmountRight cut i row) e (suc j) (omega arith) (omega arith) in
-    let both = and-true (from-to (negℤ greatest-amount) greatest-amount x) (empty-where-missing cut i (suc j) x) (ask-accepted _ 5 (at i (suc j)) asked) in
-    record {
-      in-range = natAbs-≤ x (natAbs greatest-amount) .1 (from-to-true (negℤ greatest-amount) greatest-amount x (both .0));
-      zero-where-missing = λ h. is-zero-true x (unless-true (leb (i + suc j) cut) (is-zero x) (both .1) (leb-true (i + suc j) cut (omega arith)));
-    }
+    facts.amount-right-true cut i (suc j) (getD row j (pos 0)) (ask-accepted _ 5 (at i (suc j))
+    (first-accepted (length row) (cell-of-row AmountRight cut i row) e (suc j) (omega arith) (omega arith)))
 
 -- ---- A movement within 64 bits
 
@@ -83,10 +75,10 @@ module _ (cut i : ℕ) (opening : ℤ) (payments adjustments : List ℤ) (right 
 
   module _ (outstanding : ℤ) (j : ℕ) (s : Rolled cut i opening payments adjustments outstanding j) where
     module _ (l : j < length payments) where
-      paid : AmountInRow cut i payments j
+      paid : facts.AmountRight cut i (suc j) (getD payments j (pos 0))
       paid = amount-in-row cut i payments (right .payments-right) j l
 
-      adjusted : AmountInRow cut i adjustments j
+      adjusted : facts.AmountRight cut i (suc j) (getD adjustments j (pos 0))
       adjusted = amount-in-row cut i adjustments (right .adjustments-right) j (omega (arith, right .same-length))
 
       pub movable : Movable outstanding (getD payments j (pos 0)) (getD adjustments j (pos 0))

@@ -5,6 +5,7 @@ use mathlib.Core.List.{List}
 use Prim.Native.Nat.{ℕ, _-_, _≤_, _<_}
 use lib.IntN.{ℤ, pos}
 use lib.ListN.{length, take, drop}
+use Rattle.method.specs.Limits.{most-accident-years}
 use Rattle.method.specs.Triangle.{Triangle, amounts-length, weights-length, openings-length, cells-before}
 use Rattle.method.specs.Questions.{input-lengths-right, lengths-right}
 use Rattle.questions.specs.declared.inputs.AnswerLists.{AnswerLists}
@@ -36,7 +37,7 @@ row-part n r xs = take (n - r) (drop (cells-before n r) xs)
 -- what questions 1 to 3 leave
 pub record ListsLent (n cut : ℕ) (payments adjustments weights openings : List ℤ) : Type 0 where
   pub fewest : 2 ≤ n
-  pub most : n ≤ 32
+  pub most : n ≤ most-accident-years
   pub cut-least : 1 ≤ cut
   pub cut-most : cut < n
   pub payments-length : length payments ≡ amounts-length n

@@ -7,7 +7,7 @@ use Prim.Native.Nat.{ℕ, zero, suc, _+_, _-_, _≤_}
 use lib.Dec.{leb}
 use lib.IntN.{ℤ, pos, _+ℤ_, _-ℤ_, natAbs}
 use lib.ListN.{length}
-use Rattle.method.specs.Limits.{greatest-amount, greatest-outstanding}
+use Rattle.method.specs.Limits.{greatest-amount, greatest-outstanding, most-accident-years}
 use Rattle.method.specs.Triangle.{amounts-length, openings-length, entry}
 use Rattle.method.specs.Questions.{Verdict, accepted, at, ask, first-to, from-to}
 use Rattle.questions.specs.declared.cells.CellTest.the-variants.{AmountRight}
@@ -48,8 +48,8 @@ pub record Movable (outstanding payment adjustment : ℤ) : Type 0 where
 
 -- a row that has passed question 5
 pub record RowRight (cut i : ℕ) (opening : ℤ) (payments adjustments : List ℤ) : Type 0 where
-  pub year-most : i ≤ 32
-  pub few : length payments ≤ 32
+  pub year-most : i ≤ most-accident-years
+  pub few : length payments ≤ most-accident-years
   pub same-length : length adjustments ≡ length payments
   pub payments-right : row-of-list AmountRight cut i payments ≡ accepted
   pub adjustments-right : row-of-list AmountRight cut i adjustments ≡ accepted
@@ -57,7 +57,7 @@ pub record RowRight (cut i : ℕ) (opening : ℤ) (payments adjustments : List �
 
 -- lists that have passed question 5
 pub record AmountsRight (n cut : ℕ) (payments adjustments openings : List ℤ) : Type 0 where
-  pub most : n ≤ 32
+  pub most : n ≤ most-accident-years
   pub payments-length : length payments ≡ amounts-length n
   pub adjustments-length : length adjustments ≡ amounts-length n
   pub openings-length-right : length openings ≡ openings-length cut

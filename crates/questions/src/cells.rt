@@ -2,6 +2,7 @@
 ghost use mathlib.Core.Path.{_≡_};
 ghost use Prim.Native.Nat.{_+_, _≤_};
 ghost use lib.ListN.{length};
+ghost use Rattle.method.specs.Limits.{most-accident-years};
 ghost use Rattle.method.specs.Triangle.{amounts-length};
 ghost use Rattle.questions.specs.Verdicts.{verdict-of};
 ghost use Rattle.questions.specs.Cells.{passes, number-of, empty-where-missing, row-of-list, whole-list};
@@ -21,9 +22,9 @@ pub(crate) enum CellTest {
     WeightAllowed,
 }
 
-// The first refusal in a list whose rows have n, n − 1, … cells.
+// The first refusal in a list whose rows have n, n − 1, … cells, if there is one.
 pub(crate) fn first_refusal(test: CellTest, cut: usize, n: usize, list: &[i64]) -> Verdict
-    requires { ⌜ (n ≤ 32) × (length (now list) ≡ amounts-length n) ⌝ }
+    requires { ⌜ (n ≤ most-accident-years) × (length (now list) ≡ amounts-length n) ⌝ }
     ensures { λ r. ⌜ verdict-of r ≡ whole-list test cut n (now (list .entry)) ⌝ }
 {
     let mut start = 0;
@@ -42,7 +43,7 @@ pub(crate) fn first_refusal(test: CellTest, cut: usize, n: usize, list: &[i64]) 
 
 // The first refusal in the row of accident year i.
 fn first_refusal_in_row(test: CellTest, cut: usize, i: usize, row: &[i64]) -> Verdict
-    requires { ⌜ (i ≤ 32) × (length (now row) ≤ 32) ⌝ }
+    requires { ⌜ (i ≤ most-accident-years) × (length (now row) ≤ most-accident-years) ⌝ }
     ensures { λ r. ⌜ verdict-of r ≡ row-of-list test cut i (now (row .entry)) ⌝ }
 {
     let mut j = 0;
@@ -67,7 +68,7 @@ fn number(test: CellTest) -> u8
 
 // Whether cell (i, k), which holds x, passes.
 fn cell_passes(test: CellTest, cut: usize, i: usize, k: usize, x: i64) -> bool
-    requires { ⌜ (i ≤ 32) × (k ≤ 32) ⌝ }
+    requires { ⌜ (i ≤ most-accident-years) × (k ≤ most-accident-years) ⌝ }
     ensures { λ r. ⌜ r ≡ passes test cut i k x ⌝ }
 {
     match test {
@@ -80,7 +81,7 @@ fn cell_passes(test: CellTest, cut: usize, i: usize, k: usize, x: i64) -> bool
 
 // Whether x is 0 if i + k is at most the cut.
 fn zero_up_to_cut(cut: usize, i: usize, k: usize, x: i64) -> bool
-    requires { ⌜ (i ≤ 32) × (k ≤ 32) ⌝ }
+    requires { ⌜ (i ≤ most-accident-years) × (k ≤ most-accident-years) ⌝ }
     ensures { λ r. ⌜ r ≡ empty-where-missing cut i k x ⌝ }
 {
     !(i + k <= cut) | (x == 0)

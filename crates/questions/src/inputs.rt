@@ -2,6 +2,7 @@
 ghost use mathlib.Core.Path.{_≡_};
 ghost use Prim.Native.Nat.{_≤_, _<_};
 ghost use lib.ListN.{length};
+ghost use Rattle.method.specs.Limits.{most-accident-years};
 ghost use Rattle.method.specs.Triangle.{amounts-length};
 ghost use Rattle.method.specs.Questions.{accepted, _then_, question-1, question-2, list-questions, input-questions, input-lengths-right};
 ghost use Rattle.questions.specs.Verdicts.{verdict-of};
@@ -24,7 +25,7 @@ pub enum AnswerLists {
     OfLengths(usize, usize),
 }
 
-// Questions 1 to 7.
+// The first refusal of questions 1 to 7, if there is one.
 pub fn input_questions<'a>(
     years: i64,
     cut: i64,
@@ -56,12 +57,14 @@ pub fn input_questions<'a>(
     list_questions(n, y, payments, adjustments, weights, openings)
 }
 
+// Whether n is from 2 to 32.
 pub fn question_1(years: i64) -> Verdict
     ensures { λ r. ⌜ verdict-of r ≡ question-1 years ⌝ }
 {
     asked(from_to(FEWEST_YEARS, MOST_YEARS, years), 1)
 }
 
+// Whether the cut is from 1 to n − 1.
 fn question_2(years: i64, cut: i64) -> Verdict
     requires { ⌜ question-1 years ≡ accepted ⌝ }
     ensures { λ r. ⌜ verdict-of r ≡ question-2 years cut ⌝ }
@@ -79,7 +82,7 @@ fn lists_right<'a>(
     openings: &'a [i64],
     answers: AnswerLists,
 ) -> bool
-    requires { ⌜ (1 ≤ n) × (n ≤ 32) × (1 ≤ cut) ⌝ }
+    requires { ⌜ (1 ≤ n) × (n ≤ most-accident-years) × (1 ≤ cut) ⌝ }
     ensures { λ r. ⌜ r ≡ lists-right
         (counted n cut (now (payments .entry)) (now (adjustments .entry)) (now (weights .entry)) (now (openings .entry))) answers ⌝ }
 {
@@ -100,7 +103,7 @@ fn input_lengths_right<'a>(
     weights: &'a [i64],
     openings: &'a [i64],
 ) -> bool
-    requires { ⌜ (1 ≤ n) × (n ≤ 32) × (1 ≤ cut) ⌝ }
+    requires { ⌜ (1 ≤ n) × (n ≤ most-accident-years) × (1 ≤ cut) ⌝ }
     ensures { λ r. ⌜ r ≡ input-lengths-right
         (counted n cut (now (payments .entry)) (now (adjustments .entry)) (now (weights .entry)) (now (openings .entry))) ⌝ }
 {
@@ -111,7 +114,7 @@ fn input_lengths_right<'a>(
         & (openings.len() == cut - 1)
 }
 
-// Questions 4 to 7, each of a whole list, in list order.
+// The first refusal of questions 4 to 7, each of a whole list, in list order.
 fn list_questions<'a>(
     n: usize,
     cut: usize,
@@ -141,7 +144,7 @@ fn list_questions<'a>(
 
 // Question 5: every payment, then every adjustment.
 fn question_5<'a>(n: usize, cut: usize, payments: &'a [i64], adjustments: &'a [i64]) -> Verdict
-    requires { ⌜ (n ≤ 32) × (length (now payments) ≡ amounts-length n) × (length (now adjustments) ≡ amounts-length n) ⌝ }
+    requires { ⌜ (n ≤ most-accident-years) × (length (now payments) ≡ amounts-length n) × (length (now adjustments) ≡ amounts-length n) ⌝ }
     ensures { λ r. ⌜ verdict-of r ≡ (whole-list AmountRight cut n (now (payments .entry)) then whole-list AmountRight cut n (now (adjustments .entry))) ⌝ }
 {
     let paid = first_refusal(CellTest::AmountRight, cut, n, payments);

@@ -2,6 +2,7 @@
 ghost use mathlib.Core.Path.{_≡_};
 ghost use Prim.Native.Nat.{_+_, _≤_, suc};
 ghost use lib.IntN.{_+ℤ_, _-ℤ_};
+ghost use Rattle.method.specs.Limits.{most-accident-years};
 ghost use Rattle.method.specs.Triangle.{entry};
 ghost use Rattle.questions.specs.Verdicts.{verdict-of};
 ghost use Rattle.questions.specs.Observed.{AmountsRight, RowRight, in-range-where-known, row-of-outstandings, all-outstandings, Movable};
@@ -10,6 +11,7 @@ use crate::limits::from_to;
 use crate::verdict::Verdict;
 use crate::verdict::refusal_at;
 
+// The first opening or outstanding out of range, if there is one.
 pub(crate) fn question_6<'a>(
     n: usize,
     cut: usize,
@@ -73,7 +75,7 @@ fn outstandings_in_row<'a>(
 
 // Whether the outstanding of cell (i, k) is in range, where it is known.
 fn outstanding_in_range(cut: usize, i: usize, k: usize, outstanding: i64) -> bool
-    requires { ⌜ (i ≤ 32) × (k ≤ 32) ⌝ }
+    requires { ⌜ (i ≤ most-accident-years) × (k ≤ most-accident-years) ⌝ }
     ensures { λ r. ⌜ r ≡ in-range-where-known cut i k outstanding ⌝ }
 {
     !(cut <= i + k) | from_to(0, GREATEST_OUTSTANDING, outstanding)

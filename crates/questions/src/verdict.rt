@@ -1,6 +1,7 @@
 // The verdict on a triangle.
 ghost use mathlib.Core.Path.{_≡_};
 ghost use Prim.Native.Nat.{_≤_};
+ghost use Rattle.method.specs.Limits.{most-accident-years};
 ghost use Rattle.method.specs.Questions.{at, nowhere};
 ghost use Rattle.method.specs.Questions as meaning;
 ghost use Rattle.questions.specs.Verdicts.{verdict-of};
@@ -19,7 +20,7 @@ pub enum Verdict {
 
 // A question's refusal at a cell.
 pub fn refusal_at(question: u8, i: usize, k: usize) -> Verdict
-    requires { ⌜ (i ≤ 32) × (k ≤ 32) ⌝ }
+    requires { ⌜ (i ≤ most-accident-years) × (k ≤ most-accident-years) ⌝ }
     ensures { λ r. ⌜ verdict-of r ≡ meaning.refused question (at i k) ⌝ }
 {
     Verdict::Refused(
@@ -31,7 +32,7 @@ pub fn refusal_at(question: u8, i: usize, k: usize) -> Verdict
     )
 }
 
-// A question of the whole input: its refusal has no place.
+// The verdict of a question that is put to the input as a whole: a refusal has no place.
 pub fn asked(answer: bool, question: u8) -> Verdict
     ensures { λ r. ⌜ verdict-of r ≡ meaning.ask answer question nowhere ⌝ }
 {

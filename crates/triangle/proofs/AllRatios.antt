@@ -12,7 +12,7 @@ use lib.Signed.{_≤ℤ_}
 use Rattle.integers.proofs.RingSolver.{con}
 use Rattle.integers.proofs.LinearFacts.{integers}
 use Rattle.integers.proofs.Order.{natAbs-by}
-use Rattle.method.specs.Limits.{greatest-weight, greatest-outstanding}
+use Rattle.method.specs.Limits.{greatest-weight, greatest-outstanding, most-accident-years, most-ratios}
 use Rattle.method.specs.Triangle.{Triangle, n, S, T, w, entry}
 use Rattle.method.specs.Outstandings.{R, sums}
 use Rattle.method.proofs.QuestionFacts.{Observed}
@@ -20,7 +20,7 @@ use Rattle.method.proofs.Readings.{R-in-range}
 use Rattle.method.proofs.Positions.{entry-at}
 use Rattle.method.proofs.Sums.{sum-same}
 use Rattle.triangle.specs.declared.ratios.Sums.{Sums}
-use Rattle.triangle.specs.Ratios.{sums-of, no-sums, partial-sums, RatiosOf, FirstYear, FirstOutstandings, YearInput, MovedOn}
+use Rattle.triangle.specs.Ratios.{sums-of, no-sums, partial-sums, DevelopmentOf, FirstYear, FirstOutstandings, YearInput, MovedOn}
 use Rattle.triangle.proofs.Places.{blank, one-more-place}
 use Rattle.triangle.proofs.DevelopmentYear.{same-sums}
 
@@ -44,7 +44,7 @@ module _ (t : Triangle) (ok : Observed t) where
     opening-size = λ r l. outstanding-size r 0 (omega arith);
   }
 
-  pub year-input : (k : ℕ) (outstandings : List ℤ) → 1 ≤ k → k < n t → length outstandings ≡ 32
+  pub year-input : (k : ℕ) (outstandings : List ℤ) → 1 ≤ k → k < n t → length outstandings ≡ most-accident-years
       → ((r : ℕ) → r + k ≤ n t → getD outstandings r (pos 0) ≡ R t (suc r) k)
       → YearInput (n t) k (t .payments) (t .adjustments) (t .weights) outstandings
   year-input k outstandings p q long e = record {
@@ -67,8 +67,8 @@ module _ (t : Triangle) (ok : Observed t) where
 pub record YearsMade (t : Triangle) (years : List Sums) (outstandings : List ℤ) (k : ℕ) : Type 0 where
   pub first : 1 ≤ k
   pub last : k ≤ n t
-  pub years-long : length years ≡ 31
-  pub outstandings-long : length outstandings ≡ 32
+  pub years-long : length years ≡ most-ratios
+  pub outstandings-long : length outstandings ≡ most-accident-years
   pub made : (j : ℕ) → j + 1 < k → sums-of (getD years j no-sums) ≡ sums t (j + 1)
   pub not-yet : (j : ℕ) → k ≤ j + 1 → getD years j no-sums ≡ no-sums
   pub at-hand : (r : ℕ) → r + k ≤ n t → getD outstandings r (pos 0) ≡ R t (suc r) k
@@ -77,15 +77,15 @@ pub record YearsMade (t : Triangle) (years : List Sums) (outstandings : List ℤ
 
 module _ (t : Triangle) where
   pub no-year-made : (outstandings : List ℤ) → 1 ≤ n t → FirstOutstandings (n t) (t .payments) (t .adjustments) (t .openings) outstandings
-      → YearsMade t (replicate 31 no-sums) outstandings 1
+      → YearsMade t (replicate most-ratios no-sums) outstandings 1
   unfolding R
   no-year-made outstandings l f = record {
     first = omega arith;
     last = l;
-    years-long = length-replicate 31 no-sums;
+    years-long = length-replicate most-ratios no-sums;
     outstandings-long = f .long;
     made = λ j h. absurd (omega arith);
-    not-yet = λ j h. blank 31 j no-sums;
+    not-yet = λ j h. blank most-ratios j no-sums;
     at-hand = λ r h. f .first r (omega arith);
     behind = λ r h m. absurd (omega arith);
     beyond = f .beyond;
@@ -105,7 +105,7 @@ module _ (t : Triangle) where
         each : (j : ℕ) → j < n t - k → w t (suc j) k *ℤ R t (suc j) k ≡ w t (suc j) k *ℤ entry outstandings (suc j)
         each j h = ap (λ x. w t (suc j) k *ℤ x) (sym (entry-at outstandings j ∙ y .at-hand j (omega arith)))
 
-    pub one-more-year : (s : Sums) (next : List ℤ) → k < n t → n t ≤ 32
+    pub one-more-year : (s : Sums) (next : List ℤ) → k < n t → n t ≤ most-accident-years
         → sums-of s ≡ partial-sums (n t) k (t .payments) (t .adjustments) (t .weights) outstandings (n t - k)
         → MovedOn (n t) k (t .payments) (t .adjustments) outstandings next
         → YearsMade t (set years (k - 1) s) next (k + 1)
@@ -126,7 +126,7 @@ module _ (t : Triangle) where
         here : sums-of s ≡ sums t (k - 1 + 1)
         here = let year : k ≡ k - 1 + 1 = omega (arith, y .first) in e ∙ sym same-year ∙ ap (sums t) year
 
-    pub all-years-made : n t ≤ k → RatiosOf t years outstandings
+    pub all-years-made : n t ≤ k → DevelopmentOf t years outstandings
     all-years-made l = record {
       year = λ j h. y .made j (omega arith);
       year-beyond = λ j h. y .not-yet j (omega (arith, y .last));

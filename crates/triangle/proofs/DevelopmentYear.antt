@@ -3,7 +3,6 @@ use mathlib.Core.Path.{_≡_, refl, sym, ap, _∙_}
 use mathlib.Core.Logic.{inl}
 use mathlib.Core.List.{List}
 use Prim.Native.Nat.{ℕ, zero, suc, _+_, _*_, _-_, _≤_, _<_}
-use native.Mathlib.Nat.{le-trans, mul-le-mul-right}
 use native.Mathlib.Numerals.{add-one}
 use native.Mathlib.Omega.{arith}
 use lib.Dec.{lit<}
@@ -14,12 +13,13 @@ use mir.Syntax.{w64}
 use mir.Val.{SFits}
 use Rattle.integers.proofs.Order.{natAbs-+ℤ, natAbs-*ℤ-≤}
 use Rattle.integers.proofs.MachineArithmetic.{fits-natAbs}
-use Rattle.method.specs.Limits.{most-years, greatest-weight, greatest-amount, greatest-outstanding, greatest-term, greatest-sum}
+use Rattle.method.specs.Limits.{greatest-weight, greatest-amount, greatest-outstanding, greatest-term, greatest-sum, most-accident-years}
 use Rattle.method.specs.Counting.{sum-to}
 use Rattle.method.specs.Triangle.{amounts-length, cells-before, cell, entry}
 use Rattle.method.specs.Outstandings.{Sums}
 use Rattle.method.proofs.Positions.{cells-before-none, cells-before-more, cell-at, entry-at, cell-inside, weights-length-is}
-use Rattle.method.proofs.Sums.{sum-none, sum-more, sum-natAbs}
+use Rattle.method.proofs.Sums.{sum-none, sum-more}
+use Rattle.method.proofs.SumBounds.{few-terms}
 use Rattle.questions.specs.Observed.{Movable}
 use Rattle.triangle.proofs.Places.{one-more-place}
 use Rattle.triangle.specs.Ratios.{partial-sums, MovedOn, YearInput, with-row, Summable, Addable}
@@ -65,7 +65,7 @@ pub record Summed (n k : ℕ) (payments adjustments weights before : List ℤ) (
   pub sums-are : s ≡ partial-sums n k payments adjustments weights before r
   pub weight-place : weight-at ≡ cells-before (n - 1) r + (k - 1)
   pub amount-place : amount-at ≡ cells-before n r + k
-  pub long : length after ≡ 32
+  pub long : length after ≡ most-accident-years
   pub moved : (j : ℕ) → j < r → getD after j (pos 0) ≡ getD before j (pos 0) -ℤ cell n payments (suc j) (suc k) +ℤ cell n adjustments (suc j) (suc k)
   pub kept : (j : ℕ) → r ≤ j → getD after j (pos 0) ≡ getD before j (pos 0)
 
@@ -97,13 +97,10 @@ module _ (n k : ℕ) (payments adjustments weights before : List ℤ) (ok : Year
       pub amount-inside : amount-at < amounts-length n
       amount-inside = omega (arith, w .amount-place, cell-inside n r k l)
 
-      few : r ≤ natAbs most-years - 1
-      few = omega (arith, ok .most, ok .first)
-
       -- the size of a sum so far
       sum-size : (f : ℕ → ℤ) → ((j : ℕ) → j < r → natAbs (cell (n - 1) weights (suc j) k *ℤ f (suc j)) ≤ greatest-term)
           → natAbs (sum-to r (λ i. cell (n - 1) weights i k *ℤ f i)) ≤ greatest-sum
-      sum-size f h = le-trans (sum-natAbs r greatest-term (λ i. cell (n - 1) weights i k *ℤ f i) each) (mul-le-mul-right greatest-term few)
+      sum-size f h = few-terms r (λ i. cell (n - 1) weights i k *ℤ f i) (omega (arith, ok .most, ok .first)) each
         where
           each : (i : ℕ) → 1 ≤ i → i ≤ r → natAbs (cell (n - 1) weights i k *ℤ f i) ≤ greatest-term
           each zero p q = absurd (omega arith)

@@ -14,7 +14,7 @@ use Rattle.method.specs.Outstandings.{sums}
 use Rattle.method.specs.Questions.{accepted, refused, at, ask, exposure-positive, question-8}
 use Rattle.method.proofs.FirstRefusal.{ask-yes, ask-no, first-same}
 use Rattle.triangle.specs.declared.ratios.Sums.{Sums}
-use Rattle.triangle.specs.Ratios.{no-sums, RatiosOf}
+use Rattle.triangle.specs.Ratios.{no-sums, DevelopmentOf}
 use Rattle.triangle.specs.Reading.{exposure-of-year, exposures}
 
 -- number j of the years, counted from 0
@@ -30,7 +30,7 @@ module _ (years : List Sums) (j : ℕ) where
   unfolding exposure-of-year
   exposure-refused e = ask-no _ 8 (at 0 (j + 1)) (ap (λ (x : ℕ). ltZ (pos 0) (getD years x no-sums .exposure)) there ∙ e)
 
-pub question-8-is : (t : Triangle) (years : List Sums) (outstandings : List ℤ) → RatiosOf t years outstandings → exposures (n t) years ≡ question-8 t
+pub question-8-is : (t : Triangle) (years : List Sums) (outstandings : List ℤ) → DevelopmentOf t years outstandings → exposures (n t) years ≡ question-8 t
 unfolding exposures exposure-of-year question-8 exposure-positive
 question-8-is t years outstandings r = first-same (n t - 1) (exposure-of-year years) (λ k. ask (exposure-positive t k) 8 (at 0 k)) same
   where

@@ -8,7 +8,7 @@ use native.Mathlib.Omega.{arith}
 use lib.IntN.{ℤ, pos, _+ℤ_, _-ℤ_, natAbs}
 use lib.ListN.{length, getD, set, replicate, length-set, length-replicate}
 use lib.Seq.{getD-set-other}
-use Rattle.method.specs.Limits.{greatest-amount}
+use Rattle.method.specs.Limits.{greatest-amount, most-accident-years}
 use Rattle.method.specs.Triangle.{amounts-length, cells-before, cell, entry}
 use Rattle.method.proofs.Positions.{cells-before-none, cells-before-more, cell-at, cell-inside}
 use Rattle.questions.specs.Observed.{Movable}
@@ -19,18 +19,18 @@ use Rattle.triangle.proofs.Places.{blank, one-more-place}
 pub record Placed (n : ℕ) (payments adjustments openings outstandings : List ℤ) (start r : ℕ) : Type 0 where
   pub rows : r ≤ n
   pub start-is : start ≡ cells-before n r
-  pub long : length outstandings ≡ 32
+  pub long : length outstandings ≡ most-accident-years
   pub first : (j : ℕ) → j < r → getD outstandings j (pos 0) ≡ entry openings (suc j) -ℤ cell n payments (suc j) 1 +ℤ cell n adjustments (suc j) 1
   pub beyond : (j : ℕ) → r ≤ j → getD outstandings j (pos 0) ≡ pos 0
 
 module _ (n : ℕ) (payments adjustments openings : List ℤ) (ok : FirstYear n payments adjustments openings) where
-  pub none-placed : Placed n payments adjustments openings (replicate 32 (pos 0)) 0 0
+  pub none-placed : Placed n payments adjustments openings (replicate most-accident-years (pos 0)) 0 0
   none-placed = record {
     rows = omega arith;
     start-is = sym (cells-before-none n);
-    long = length-replicate 32 (pos 0);
+    long = length-replicate most-accident-years (pos 0);
     first = λ j h. absurd (omega arith);
-    beyond = λ j h. blank 32 j (pos 0);
+    beyond = λ j h. blank most-accident-years j (pos 0);
   }
 
   module _ (outstandings : List ℤ) (start r : ℕ) (p : Placed n payments adjustments openings outstandings start r) where

@@ -4,5 +4,5 @@ pub mod FirstYear
 pub mod DevelopmentYear
 pub mod AllRatios
 pub mod Exposures
-pub mod Readings
+pub mod ReadingAnswers
 pub mod RowParts

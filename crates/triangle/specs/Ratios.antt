@@ -1,11 +1,11 @@
--- The ratios of a triangle, as the code makes them: development year by development year, with one column of outstandings.
+-- The development of a triangle, as the code makes it: development year by development year, with one column of outstandings.
 use mathlib.Core.Path.{_≡_}
 use mathlib.Core.Bool.{true}
 use mathlib.Core.List.{List}
 use Prim.Native.Nat.{ℕ, suc, _+_, _-_, _≤_, _<_}
 use lib.IntN.{ℤ, pos, _+ℤ_, _-ℤ_, _*ℤ_, natAbs}
 use lib.ListN.{length, getD}
-use Rattle.method.specs.Limits.{greatest-weight, greatest-amount, greatest-outstanding, greatest-sum}
+use Rattle.method.specs.Limits.{greatest-weight, greatest-amount, greatest-outstanding, greatest-sum, most-accident-years}
 use Rattle.method.specs.Counting.{sum-to}
 use Rattle.method.specs.Triangle.{Triangle, n, amounts-length, weights-length, cell, entry}
 use Rattle.method.specs.Outstandings as meaning
@@ -22,12 +22,12 @@ sums-of s = record { P = s .payments; Q = s .adjustments; D = s .exposure }
 abbrev pub no-sums : Sums
 no-sums = record { payments = pos 0; adjustments = pos 0; exposure = pos 0 }
 
--- ---- The ratios of a whole triangle
+-- ---- A whole triangle
 
--- years has the sums of development year k at k − 1, and outstandings the last observed outstanding of accident year i at i − 1
-pub record RatiosOf (t : Triangle) (years : List Sums) (outstandings : List ℤ) : Type 0 where
-  pub year : (k : ℕ) → k + 1 < n t → sums-of (getD years k no-sums) ≡ sums t (k + 1)
-  pub year-beyond : (k : ℕ) → n t ≤ k + 1 → getD years k no-sums ≡ no-sums
+-- the ratios of development year k, as its sums, at k − 1, and the last observed outstanding of accident year i at i − 1
+pub record DevelopmentOf (t : Triangle) (ratios : List Sums) (outstandings : List ℤ) : Type 0 where
+  pub year : (k : ℕ) → k + 1 < n t → sums-of (getD ratios k no-sums) ≡ sums t (k + 1)
+  pub year-beyond : (k : ℕ) → n t ≤ k + 1 → getD ratios k no-sums ≡ no-sums
   pub outstanding : (r : ℕ) → r < n t → getD outstandings r (pos 0) ≡ R t (r + 1) (n t - r)
   pub outstanding-beyond : (r : ℕ) → n t ≤ r → getD outstandings r (pos 0) ≡ pos 0
 
@@ -37,13 +37,13 @@ pub record Readable (n : ℕ) (payments adjustments weights openings : List ℤ)
   pub lists-right : input-lengths-right (counted n cut payments adjustments weights openings) ≡ true
   pub passed : input-questions (counted n cut payments adjustments weights openings) true ≡ accepted
 
-pub record RatiosRead (n : ℕ) (payments adjustments weights openings : List ℤ) (years : List Sums) (outstandings : List ℤ) : Type 0 where
-  pub ratios : (cut : ℕ) → RatiosOf (counted n cut payments adjustments weights openings) years outstandings
+pub record DevelopmentRead (n : ℕ) (payments adjustments weights openings : List ℤ) (ratios : List Sums) (outstandings : List ℤ) : Type 0 where
+  pub development : (cut : ℕ) → DevelopmentOf (counted n cut payments adjustments weights openings) ratios outstandings
 
 -- ---- The outstandings of development year 1
 
 pub record FirstYear (n : ℕ) (payments adjustments openings : List ℤ) : Type 0 where
-  pub most : n ≤ 32
+  pub most : n ≤ most-accident-years
   pub payments-length : length payments ≡ amounts-length n
   pub adjustments-length : length adjustments ≡ amounts-length n
   pub payment-size : (r : ℕ) → r < n → natAbs (cell n payments (suc r) 1) ≤ natAbs greatest-amount
@@ -54,7 +54,7 @@ pub record FirstOutstandings (n : ℕ) (payments adjustments openings outstandin
   pub first : (r : ℕ) → r < n
       → getD outstandings r (pos 0) ≡ entry openings (suc r) -ℤ cell n payments (suc r) 1 +ℤ cell n adjustments (suc r) 1
   pub beyond : (r : ℕ) → n ≤ r → getD outstandings r (pos 0) ≡ pos 0
-  pub long : length outstandings ≡ 32
+  pub long : length outstandings ≡ most-accident-years
 
 -- ---- One development year
 
@@ -71,10 +71,10 @@ pub record MovedOn (n k : ℕ) (payments adjustments before after : List ℤ) : 
   pub moved : (r : ℕ) → r + k < n
       → getD after r (pos 0) ≡ getD before r (pos 0) -ℤ cell n payments (suc r) (suc k) +ℤ cell n adjustments (suc r) (suc k)
   pub kept : (r : ℕ) → n ≤ r + k → getD after r (pos 0) ≡ getD before r (pos 0)
-  pub long : length after ≡ 32
+  pub long : length after ≡ most-accident-years
 
 pub record YearInput (n k : ℕ) (payments adjustments weights outstandings : List ℤ) : Type 0 where
-  pub most : n ≤ 32
+  pub most : n ≤ most-accident-years
   pub first : 1 ≤ k
   pub last : k < n
   pub payments-length : length payments ≡ amounts-length n
@@ -84,7 +84,7 @@ pub record YearInput (n k : ℕ) (payments adjustments weights outstandings : Li
   pub payment-size : (r : ℕ) → r + k < n → natAbs (cell n payments (suc r) (suc k)) ≤ natAbs greatest-amount
   pub adjustment-size : (r : ℕ) → r + k < n → natAbs (cell n adjustments (suc r) (suc k)) ≤ natAbs greatest-amount
   pub outstanding-size : (r : ℕ) → r + k < n → natAbs (getD outstandings r (pos 0)) ≤ natAbs greatest-outstanding
-  pub outstandings-length : length outstandings ≡ 32
+  pub outstandings-length : length outstandings ≡ most-accident-years
 
 -- one accident year more
 abbrev pub with-row : meaning.Sums → ℤ → ℤ → ℤ → ℤ → meaning.Sums
@@ -94,7 +94,7 @@ with-row s weight payment adjustment outstanding = record {
   D = s .D +ℤ weight *ℤ outstanding;
 }
 
--- a sum and a term that 64 bits hold together
+-- a sum and a term that 64 bits hold together; an amount is a payment, an adjustment or an outstanding, whose limits are the same
 pub record Summable (sum weight amount : ℤ) : Type 0 where
   pub sum-size : natAbs sum ≤ greatest-sum
   pub weight-size : natAbs weight ≤ natAbs greatest-weight

@@ -2,7 +2,7 @@
 ghost use mathlib.Core.Path.{_≡_};
 ghost use lib.IntN.{_+ℤ_, _*ℤ_};
 ghost use Prim.Native.Nat.{_-_, _≤_};
-ghost use Rattle.triangle.specs.Ratios.{Readable, RatiosRead, FirstYear, FirstOutstandings, YearInput, partial-sums, MovedOn, sums-of, Addable, with-row, Summable};
+ghost use Rattle.triangle.specs.Ratios.{Readable, DevelopmentRead, FirstYear, FirstOutstandings, YearInput, partial-sums, MovedOn, sums-of, Addable, with-row, Summable};
 use questions::limits::ACCIDENT_YEARS;
 use questions::limits::DEVELOPMENT_YEARS;
 use questions::outstandings::next_outstanding;
@@ -24,34 +24,34 @@ pub(crate) const NO_SUMS: Sums = Sums {
     exposure: 0,
 };
 
-// The sums of development year k stand at k − 1, and the last observed outstanding of accident year i, in whole units, at i − 1.
+// The ratios of development year k, as its sums, stand at k − 1; the last observed outstanding of accident year i, in whole units, at i − 1.
 // What lies beyond the years of the triangle holds zeros.
-pub struct Ratios {
-    pub years: [Sums; DEVELOPMENT_YEARS],
+pub struct Development {
+    pub ratios: [Sums; DEVELOPMENT_YEARS],
     pub outstandings: [i64; ACCIDENT_YEARS],
 }
 
-// The ratios of a triangle that has passed questions 1 to 7.
-pub(crate) fn ratios_of<'a>(
+// The ratios and last observed outstandings of a triangle that has passed questions 1 to 7.
+pub(crate) fn development_of<'a>(
     n: usize,
     payments: &'a [i64],
     adjustments: &'a [i64],
     weights: &'a [i64],
     openings: &'a [i64],
-) -> Ratios
+) -> Development
     requires { ⌜ Readable n (now payments) (now adjustments) (now weights) (now openings) ⌝ }
-    ensures { λ r. ⌜ RatiosRead n (now (payments .entry)) (now (adjustments .entry)) (now (weights .entry)) (now (openings .entry)) (r .years) (r .outstandings) ⌝ }
+    ensures { λ r. ⌜ DevelopmentRead n (now (payments .entry)) (now (adjustments .entry)) (now (weights .entry)) (now (openings .entry)) (r .ratios) (r .outstandings) ⌝ }
 {
-    let mut years = [NO_SUMS; DEVELOPMENT_YEARS];
+    let mut ratios = [NO_SUMS; DEVELOPMENT_YEARS];
     let mut outstandings = first_outstandings(n, payments, adjustments, openings);
     let mut k = 1;
     while k < n {
         let sums = development_year(n, k, payments, adjustments, weights, &mut outstandings);
-        years[k - 1] = sums;
+        ratios[k - 1] = sums;
         k += 1;
     }
-    Ratios {
-        years: years,
+    Development {
+        ratios: ratios,
         outstandings: outstandings,
     }
 }

@@ -1,13 +1,14 @@
 // Reading a triangle: questions 1 to 8, and the ratios of a triangle that they accept.
 ghost use mathlib.Core.Path.{_≡_};
 ghost use Prim.Native.Nat.{_≤_};
+ghost use Rattle.method.specs.Limits.{most-accident-years};
 ghost use Rattle.questions.specs.Verdicts.{verdict-of};
 ghost use Rattle.questions.specs.Lent.{lent};
-ghost use Rattle.triangle.specs.Reading.{no-ratios, exposures, ReadingOf};
+ghost use Rattle.triangle.specs.Reading.{no-development, exposures, ReadingOf};
+use crate::ratios::Development;
 use crate::ratios::NO_SUMS;
-use crate::ratios::Ratios;
 use crate::ratios::Sums;
-use crate::ratios::ratios_of;
+use crate::ratios::development_of;
 use questions::inputs::AnswerLists;
 use questions::inputs::input_questions;
 use questions::limits::ACCIDENT_YEARS;
@@ -15,12 +16,13 @@ use questions::limits::DEVELOPMENT_YEARS;
 use questions::verdict::Verdict;
 use questions::verdict::refusal_at;
 
-// The verdict of questions 1 to 8, and the ratios; where the triangle is refused, its ratios are zeros.
+// The verdict of questions 1 to 8, and what the triangle shows of its development; zeros where it is refused.
 pub struct Reading {
     pub verdict: Verdict,
-    pub ratios: Ratios,
+    pub development: Development,
 }
 
+// The first refusal of questions 1 to 8; where there is none, the ratios and the last observed outstandings.
 // What is lent may be anything: n, the cut and every number any i64, and the lists of any length.
 pub fn read<'a>(
     years: i64,
@@ -47,40 +49,40 @@ pub fn read<'a>(
         return refused(inputs);
     };
     let n = years as usize;
-    let ratios = ratios_of(n, payments, adjustments, weights, openings);
-    let sums = ratios.years;
-    let exposed = question_8(n, sums);
+    let development = development_of(n, payments, adjustments, weights, openings);
+    let ratios = development.ratios;
+    let exposed = question_8(n, ratios);
     let Verdict::Accepted = exposed else {
         return refused(exposed);
     };
     Reading {
         verdict: exposed,
-        ratios: ratios,
+        development: development,
     }
 }
 
 // The reading of a triangle that is refused.
 fn refused(verdict: Verdict) -> Reading
-    ensures { λ r. ⌜ r ≡ record { verdict = verdict; ratios = no-ratios } ⌝ }
+    ensures { λ r. ⌜ r ≡ record { verdict = verdict; development = no-development } ⌝ }
 {
-    let ratios = Ratios {
-        years: [NO_SUMS; DEVELOPMENT_YEARS],
+    let development = Development {
+        ratios: [NO_SUMS; DEVELOPMENT_YEARS],
         outstandings: [0; ACCIDENT_YEARS],
     };
     Reading {
         verdict: verdict,
-        ratios: ratios,
+        development: development,
     }
 }
 
-// Whether every exposure is above 0.
-fn question_8(n: usize, years: [Sums; DEVELOPMENT_YEARS]) -> Verdict
-    requires { ⌜ n ≤ 32 ⌝ }
-    ensures { λ r. ⌜ verdict-of r ≡ exposures n years ⌝ }
+// The first development year whose exposure is not above 0, if there is one.
+fn question_8(n: usize, ratios: [Sums; DEVELOPMENT_YEARS]) -> Verdict
+    requires { ⌜ n ≤ most-accident-years ⌝ }
+    ensures { λ r. ⌜ verdict-of r ≡ exposures n ratios ⌝ }
 {
     let mut j = 0;
     while j + 1 < n {
-        let sums = years[j];
+        let sums = ratios[j];
         if !(0 < sums.exposure) {
             return refusal_at(8, 0, j + 1);
         }

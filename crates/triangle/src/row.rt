@@ -3,6 +3,7 @@ ghost use mathlib.Core.Path.{_≡_};
 ghost use Prim.Native.Nat.{_+_, _-_, _≤_};
 ghost use lib.IntN.{pos};
 ghost use lib.ListN.{take, drop};
+ghost use Rattle.method.specs.Limits.{most-accident-years};
 ghost use Rattle.method.specs.Triangle.{cells-before};
 ghost use Rattle.method.specs.Answers as meaning;
 ghost use Rattle.questions.specs.Verdicts.{verdict-of};
@@ -71,7 +72,7 @@ pub fn row_verdict<'a>(
 }
 
 fn both_lengths_right<'a>(n: usize, payments: &'a [i64], adjustments: &'a [i64]) -> bool
-    requires { ⌜ n ≤ 32 ⌝ }
+    requires { ⌜ n ≤ most-accident-years ⌝ }
     ensures { λ r. ⌜ r ≡ meaning.both-lengths-right (pos n) (now (payments .entry)) (now (adjustments .entry)) ⌝ }
 {
     let amounts = n * (n + 1) / 2;

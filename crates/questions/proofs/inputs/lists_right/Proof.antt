@@ -1,13 +1,14 @@
 -- By whether the answer lists are lent.
 use borrow.Author.Needs.{needs}
-use Prim.Native.Nat.{_*_, _-_, _≤_}
+use Prim.Native.Nat.{_+_, _*_, _-_, _≤_}
 use native.Mathlib.Omega.{arith}
+use Rattle.method.specs.Limits.{most-accident-years}
 use Rattle.method.specs.Questions.{lengths-right}
 use Rattle.questions.proofs.Lengths.{few-cells}
 use Rattle.questions.proofs.inputs.lists_right.Statement.{statement}
 use Rattle.questions.proofs.inputs.lists_right.Tie as tie
 
-unseen : (c : tie.After-known-told) → c .before .before .before .before .args .n * (c .before .before .before .before .args .n - 1) ≤ 32 * 33
+unseen : (c : tie.After-known-told) → c .before .before .before .before .args .n * (c .before .before .before .before .args .n - 1) ≤ most-accident-years * (most-accident-years + 1)
 unseen c = few-cells (c .before .before .before .before .args .n) (c .before .before .before .before .args .n - 1) (omega arith) (omega arith)
 
 input-lengths-right-requires : tie.Need-input-lengths-right-requires

@@ -8,10 +8,10 @@ use Rattle.method.proofs.FirstRefusal.{stopped, went-on}
 use Rattle.method.proofs.QuestionFacts.{Observed}
 use Rattle.questions.specs.Verdicts.{verdict-of}
 use Rattle.questions.specs.Lent.{lent, lists-right}
-use Rattle.triangle.specs.Ratios.{RatiosOf}
+use Rattle.triangle.specs.Ratios.{DevelopmentOf}
 use Rattle.questions.proofs.Counted.{count-fits}
 use Rattle.triangle.proofs.Exposures.{question-8-is}
-use Rattle.triangle.proofs.Readings.{refused-reading, accepted-reading, observed, readable, ratios-are}
+use Rattle.triangle.proofs.ReadingAnswers.{refused-reading, accepted-reading, observed, readable, development-is}
 use Rattle.triangle.proofs.reading.read.Statement.{statement}
 use Rattle.triangle.proofs.reading.read.Tie as tie
 
@@ -33,12 +33,12 @@ read-of c =
     observed (a .years) (a .cut) (a .payments .now) (a .adjustments .now) (a .weights .now) (a .openings .now) (a .answers) (passed c)
 
 -- the ratios, and question 8
-made : (c : tie.After-ratios-of) → RatiosOf (triangle (c .before .before .before .before)) (c .ratios-of .result .years) (c .ratios-of .result .outstandings)
+made : (c : tie.After-development-of) → DevelopmentOf (triangle (c .before .before .before .before)) (c .development-of .result .ratios) (c .development-of .result .outstandings)
 made c =
     let s = c .before .before .before .before in
-    ratios-are (s .args .years) (s .args .cut) (s .args .payments .now) (s .args .adjustments .now) (s .args .weights .now)
+    development-is (s .args .years) (s .args .cut) (s .args .payments .now) (s .args .adjustments .now) (s .args .weights .now)
     (s .args .openings .now) (s .args .answers)
-    (passed (c .before)) (c .ratios-of .result) (simp (toZ-ofZ (s .fits .years)) at (c .ratios-of .ensures))
+    (passed (c .before)) (c .development-of .result) (simp (toZ-ofZ (s .fits .years)) at (c .development-of .ensures))
 
 eight : (c : tie.After-question-8) → verdict-of (c .question-8 .result) ≡ question-8 (triangle (c .before .before .before .before .before .before))
 eight c =
@@ -67,8 +67,8 @@ cast-n : tie.Need-cast-n
 cast-n c = simp (toZ-ofZ (c .before .before .before .fits .years)) (count-fits (c .before .before .before .args .years)
     (read-of c .years .counted) (read-of c .years .most))
 
-ratios-of-requires : tie.Need-ratios-of-requires
-ratios-of-requires c κs =
+development-of-requires : tie.Need-development-of-requires
+development-of-requires c κs =
     let a = c .before .before .before .args in
     simp (toZ-ofZ (c .before .before .before .fits .years)) (readable (a .years) (a .cut) _ _ _ _ (a .answers) (passed c))
 
@@ -107,7 +107,7 @@ read-spec =
     refused-requires
     returns
     cast-n
-    ratios-of-requires
+    development-of-requires
     question-8-requires
     enum-told-3
     enum-told-4

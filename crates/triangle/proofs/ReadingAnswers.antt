@@ -1,4 +1,4 @@
--- Reading a triangle: what makes up the answer, accepted or refused, and that a triangle which passed questions 1 to 7 has ratios.
+-- Reading a triangle: what makes up the answer, accepted or refused, and what a triangle which passed questions 1 to 7 shows.
 use mathlib.Core.Path.{_≡_, refl, sym, ap, _∙_, subst}
 use mathlib.Core.Bool.{true}
 use mathlib.Core.List.{List}
@@ -10,21 +10,21 @@ use Rattle.method.proofs.FirstRefusal.{not-both}
 use Rattle.method.proofs.QuestionFacts as facts
 use Rattle.method.proofs.QuestionFacts.{Observed, observed-triangle}
 use Rattle.questions.specs.declared.inputs.AnswerLists.{AnswerLists}
-use Rattle.triangle.specs.declared.ratios.Ratios.{Ratios}
+use Rattle.triangle.specs.declared.ratios.Development.{Development}
 use Rattle.questions.specs.declared.verdict.Verdict as code
 use Rattle.questions.specs.Verdicts.{verdict-of}
 use Rattle.questions.specs.Lent.{lent, counted, lists-right}
-use Rattle.triangle.specs.Ratios.{RatiosOf, Readable, RatiosRead}
-use Rattle.triangle.specs.Reading.{no-ratios, ReadingOf}
+use Rattle.triangle.specs.Ratios.{DevelopmentOf, Readable, DevelopmentRead}
+use Rattle.triangle.specs.Reading.{no-development, ReadingOf}
 use Rattle.questions.proofs.Counted.{lists-have-lengths, inputs-right, counted-is}
 
 module _ (t : Triangle) (answers : AnswerLists) (v : code.Verdict) (e : verdict-of v ≡ observed-questions t (lists-right t answers)) where
-  pub refused-reading : {question : ℕ} {p : Place} → verdict-of v ≡ refused question p → ReadingOf t answers (record { verdict = v; ratios = no-ratios })
+  pub refused-reading : {question : ℕ} {p : Place} → verdict-of v ≡ refused question p → ReadingOf t answers (record { verdict = v; development = no-development })
   refused-reading r = record { verdict-is = e; where-accepted = λ a. absurd (not-both (sym e ∙ r) a); where-refused = λ _. refl }
 
-  pub accepted-reading : (ratios : Ratios) → verdict-of v ≡ accepted → RatiosOf t (ratios .years) (ratios .outstandings)
-      → ReadingOf t answers (record { verdict = v; ratios = ratios })
-  accepted-reading ratios a r = record { verdict-is = e; where-accepted = λ _. r; where-refused = λ f. absurd (not-both f (sym e ∙ a)) }
+  pub accepted-reading : (d : Development) → verdict-of v ≡ accepted → DevelopmentOf t (d .ratios) (d .outstandings)
+      → ReadingOf t answers (record { verdict = v; development = d })
+  accepted-reading d a r = record { verdict-is = e; where-accepted = λ _. r; where-refused = λ f. absurd (not-both f (sym e ∙ a)) }
 
 -- a triangle that passed questions 1 to 7
 module _ (years cut : ℤ) (payments adjustments weights openings : List ℤ) (answers : AnswerLists) where
@@ -47,6 +47,6 @@ module _ (years cut : ℤ) (payments adjustments weights openings : List ℤ) (a
           passed = subst (λ (x : Triangle). input-questions x true ≡ accepted) same (ap (input-questions t) (sym yes) ∙ e);
         }
 
-    pub ratios-are : (ratios : Ratios) → RatiosRead (natAbs years) payments adjustments weights openings (ratios .years) (ratios .outstandings)
-        → RatiosOf t (ratios .years) (ratios .outstandings)
-    ratios-are ratios r = subst (λ (x : Triangle). RatiosOf x (ratios .years) (ratios .outstandings)) (sym same) (r .ratios (natAbs cut))
+    pub development-is : (d : Development) → DevelopmentRead (natAbs years) payments adjustments weights openings (d .ratios) (d .outstandings)
+        → DevelopmentOf t (d .ratios) (d .outstandings)
+    development-is d r = subst (λ (x : Triangle). DevelopmentOf x (d .ratios) (d .outstandings)) (sym same) (r .development (natAbs cut))

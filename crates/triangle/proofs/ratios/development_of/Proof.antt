@@ -8,15 +8,15 @@ use Rattle.method.specs.Triangle.{Triangle}
 use Rattle.method.proofs.QuestionFacts.{Observed, observed-triangle, input-lengths-right-true}
 use Rattle.questions.specs.Lent.{counted}
 use Rattle.triangle.proofs.AllRatios.{first-year, year-input, YearsMade, no-year-made, one-more-year, all-years-made}
-use Rattle.triangle.proofs.ratios.ratios_of.Statement.{statement}
-use Rattle.triangle.proofs.ratios.ratios_of.Tie as tie
+use Rattle.triangle.proofs.ratios.development_of.Statement.{statement}
+use Rattle.triangle.proofs.ratios.development_of.Tie as tie
 
 abbrev Inv-loop : tie.InvT-loop
-Inv-loop n payments adjustments weights openings years₀ outstandings₀ k₀ years outstandings k = (cut : ℕ) → YearsMade
-    (counted n cut payments adjustments weights openings) years outstandings k
+Inv-loop n payments adjustments weights openings ratios₀ outstandings₀ k₀ ratios outstandings k = (cut : ℕ) → YearsMade
+    (counted n cut payments adjustments weights openings) ratios outstandings k
 
 abbrev μ-loop : tie.MeasureT-loop
-μ-loop n payments adjustments weights openings years₀ outstandings₀ k₀ years outstandings k = n - k
+μ-loop n payments adjustments weights openings ratios₀ outstandings₀ k₀ ratios outstandings k = n - k
 
 -- the triangle that is read, with a cut
 abbrev triangle : tie.Start Inv-loop μ-loop → ℕ → Triangle
@@ -38,14 +38,14 @@ development-year-requires c κs =
     let y = c .before .before .loop .inv (s .pre .cut) in
     year-input (triangle s (s .pre .cut)) (observed s) _ _ (y .first) (omega arith) (y .outstandings-long) (y .at-hand)
 
-sub-years : tie.Need-sub-years Inv-loop μ-loop
-sub-years c = c .before .before .before .loop .inv 0 .first
+sub-ratios : tie.Need-sub-ratios Inv-loop μ-loop
+sub-ratios c = c .before .before .before .loop .inv 0 .first
 
-mul-years : tie.Need-mul-years Inv-loop μ-loop
-mul-years c = let m = observed (c .before .before .before .before .before) .years .most in search needs
+mul-ratios : tie.Need-mul-ratios Inv-loop μ-loop
+mul-ratios c = let m = observed (c .before .before .before .before .before) .years .most in search needs
 
-array-set-from-years : tie.Need-array-set-from-years Inv-loop μ-loop
-array-set-from-years c = let m = observed (c .before .before .before .before .before) .years .most in let f = c .before .before .before .loop .inv 0 .first in omega arith
+array-set-from-ratios : tie.Need-array-set-from-ratios Inv-loop μ-loop
+array-set-from-ratios c = let m = observed (c .before .before .before .before .before) .years .most in let f = c .before .before .before .loop .inv 0 .first in omega arith
 
 add-k : tie.Need-add-k Inv-loop μ-loop
 add-k c = search needs
@@ -60,10 +60,10 @@ loop-again c = λ cut.
     (c .development-year .ensures .0) (c .development-year .ensures .1)
 
 returns : tie.Need-returns Inv-loop μ-loop
-returns c = record { ratios = λ cut. all-years-made (triangle (c .before .before .before) cut) _ _ _ (c .before .loop .inv cut) (omega arith) }
+returns c = record { development = λ cut. all-years-made (triangle (c .before .before .before) cut) _ _ _ (c .before .loop .inv cut) (omega arith) }
 
-pub ratios-of-spec : {M : Type 1} → statement M
-ratios-of-spec =
+pub development-of-spec : {M : Type 1} → statement M
+development-of-spec =
     tie.close
     (tie.spec
     Inv-loop
@@ -71,9 +71,9 @@ ratios-of-spec =
     first-outstandings-requires
     loop-holds
     development-year-requires
-    sub-years
-    mul-years
-    array-set-from-years
+    sub-ratios
+    mul-ratios
+    array-set-from-ratios
     add-k
     loop-less
     loop-again
