@@ -14,9 +14,6 @@ abbrev IsAccepted : Verdict → Type 0
 IsAccepted accepted = Unit {0}
 IsAccepted (refused question p) = ⊥
 
-pub not-both : {v : Verdict} {question : ℕ} {p : Place} → v ≡ refused question p → v ≡ accepted → ⊥
-not-both r a = subst IsAccepted (sym a ∙ r) tt
-
 pub ask-yes : (b : Bool) (question : ℕ) (p : Place) → b ≡ true → ask b question p ≡ accepted
 unfolding ask
 ask-yes b question p e = rw e

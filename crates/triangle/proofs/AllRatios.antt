@@ -132,4 +132,6 @@ module _ (t : Triangle) where
       year-beyond = λ j h. y .not-yet j (omega (arith, y .last));
       outstanding = λ r h. rw add-one (behind r (omega arith) h (decLe (r + k) (n t)));
       outstanding-beyond = y .beyond;
+      ratios-long = y .years-long;
+      outstandings-long = y .outstandings-long;
     }

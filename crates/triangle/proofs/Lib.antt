@@ -4,5 +4,6 @@ pub mod FirstYear
 pub mod DevelopmentYear
 pub mod AllRatios
 pub mod Exposures
+pub mod Tables
 pub mod ReadingAnswers
 pub mod RowParts

@@ -1,12 +1,11 @@
 -- Reading a triangle: what makes up the answer, accepted or refused, and what a triangle which passed questions 1 to 7 shows.
-use mathlib.Core.Path.{_≡_, refl, sym, ap, _∙_, subst}
+use mathlib.Core.Path.{_≡_, sym, ap, _∙_, subst}
 use mathlib.Core.Bool.{true}
 use mathlib.Core.List.{List}
 use Prim.Native.Nat.{ℕ}
 use lib.IntN.{ℤ, natAbs}
 use Rattle.method.specs.Triangle.{Triangle}
 use Rattle.method.specs.Questions.{Place, Verdict, accepted, refused, input-lengths-right, input-questions, observed-questions}
-use Rattle.method.proofs.FirstRefusal.{not-both}
 use Rattle.method.proofs.QuestionFacts as facts
 use Rattle.method.proofs.QuestionFacts.{Observed, observed-triangle}
 use Rattle.questions.specs.declared.inputs.AnswerLists.{AnswerLists}
@@ -15,16 +14,18 @@ use Rattle.questions.specs.declared.verdict.Verdict as code
 use Rattle.questions.specs.Verdicts.{verdict-of}
 use Rattle.questions.specs.Lent.{lent, counted, lists-right}
 use Rattle.triangle.specs.Ratios.{DevelopmentOf, Readable, DevelopmentRead}
-use Rattle.triangle.specs.Reading.{no-development, ReadingOf}
+use Rattle.triangle.specs.Reading.{no-development, development, ReadingOf}
+use Rattle.triangle.proofs.Tables.{read-is}
 use Rattle.questions.proofs.Counted.{lists-have-lengths, inputs-right, counted-is}
 
 module _ (t : Triangle) (answers : AnswerLists) (v : code.Verdict) (e : verdict-of v ≡ observed-questions t (lists-right t answers)) where
   pub refused-reading : {question : ℕ} {p : Place} → verdict-of v ≡ refused question p → ReadingOf t answers (record { verdict = v; development = no-development })
-  refused-reading r = record { verdict-is = e; where-accepted = λ a. absurd (not-both (sym e ∙ r) a); where-refused = λ _. refl }
+  unfolding development
+  refused-reading r = record { verdict-is = e; development-is = sym (ap (development t) (sym e ∙ r)) }
 
   pub accepted-reading : (d : Development) → verdict-of v ≡ accepted → DevelopmentOf t (d .ratios) (d .outstandings)
       → ReadingOf t answers (record { verdict = v; development = d })
-  accepted-reading d a r = record { verdict-is = e; where-accepted = λ _. r; where-refused = λ f. absurd (not-both f (sym e ∙ a)) }
+  accepted-reading d a r = record { verdict-is = e; development-is = read-is t d r ∙ sym (ap (development t) (sym e ∙ a)) }
 
 -- a triangle that passed questions 1 to 7
 module _ (years cut : ℤ) (payments adjustments weights openings : List ℤ) (answers : AnswerLists) where

@@ -1,11 +1,12 @@
--- The development of a triangle, as the code makes it: development year by development year, with one column of outstandings.
+-- The development of a triangle as the code makes it, development year by development year with one column of outstandings:
+-- what the inner functions ask and answer.
 use mathlib.Core.Path.{_≡_}
 use mathlib.Core.Bool.{true}
 use mathlib.Core.List.{List}
 use Prim.Native.Nat.{ℕ, suc, _+_, _-_, _≤_, _<_}
 use lib.IntN.{ℤ, pos, _+ℤ_, _-ℤ_, _*ℤ_, natAbs}
 use lib.ListN.{length, getD}
-use Rattle.method.specs.Limits.{greatest-weight, greatest-amount, greatest-outstanding, greatest-sum, most-accident-years}
+use Rattle.method.specs.Limits.{most-accident-years, most-ratios, greatest-weight, greatest-amount, greatest-outstanding, greatest-sum}
 use Rattle.method.specs.Counting.{sum-to}
 use Rattle.method.specs.Triangle.{Triangle, n, amounts-length, weights-length, cell, entry}
 use Rattle.method.specs.Outstandings as meaning
@@ -30,6 +31,8 @@ pub record DevelopmentOf (t : Triangle) (ratios : List Sums) (outstandings : Lis
   pub year-beyond : (k : ℕ) → n t ≤ k + 1 → getD ratios k no-sums ≡ no-sums
   pub outstanding : (r : ℕ) → r < n t → getD outstandings r (pos 0) ≡ R t (r + 1) (n t - r)
   pub outstanding-beyond : (r : ℕ) → n t ≤ r → getD outstandings r (pos 0) ≡ pos 0
+  pub ratios-long : length ratios ≡ most-ratios
+  pub outstandings-long : length outstandings ≡ most-accident-years
 
 -- a triangle that has passed questions 1 to 7; its cut is not needed to form a ratio
 pub record Readable (n : ℕ) (payments adjustments weights openings : List ℤ) : Type 0 where
