@@ -19,52 +19,68 @@ use Rattle.questions.proofs.inputs.input_questions.Tie as tie
 abbrev triangle : tie.Start → Triangle
 triangle s = lent (s .args .years) (s .args .cut) (s .args .payments .now) (s .args .adjustments .now) (s .args .weights .now) (s .args .openings .now)
 
+-- where the code began, and the states in which an earlier question had accepted, seen from one in which question 1, 2 or 3 has
+abbrev began₁ : tie.After-enum-told → tie.Start
+began₁ c = c .before .before .before
+
+abbrev accepted₁ : tie.After-enum-told3 → tie.After-enum-told
+accepted₁ c = c .before .before .before
+
+abbrev began₂ : tie.After-enum-told3 → tie.Start
+began₂ c = began₁ (accepted₁ c)
+
+abbrev accepted₂ : tie.After-enum-told5 → tie.After-enum-told3
+accepted₂ c = c .before .before .before .before
+
+abbrev began₃ : tie.After-enum-told5 → tie.Start
+began₃ c = began₂ (accepted₂ c)
+
 -- each question's verdict, and what it is where the next one is asked
 one : (c : tie.After-question-1) → verdict-of (c .question-1 .result) ≡ question-1 (c .before .args .years)
 one c = simp (toZ-ofZ (c .before .fits .years)) at (c .question-1 .ensures)
 
-passed-one : (c : tie.After-enum-told) → question-1 (c .before .before .before .args .years) ≡ accepted
+passed-one : (c : tie.After-enum-told) → question-1 (began₁ c .args .years) ≡ accepted
 passed-one c = sym (one (c .before .before)) ∙ ap verdict-of (c .enum-told .given .1)
 
 two : (c : tie.After-question-2) → let s = c .before .before .before .before in verdict-of (c .question-2 .result) ≡ question-2 (s .args .years) (s .args .cut)
 two c = let s = c .before .before .before .before in simp (toZ-ofZ (s .fits .years), toZ-ofZ (s .fits .cut)) at (c .question-2 .ensures)
 
-passed-two : (c : tie.After-enum-told3) → let s = c .before .before .before .before .before .before in question-2 (s .args .years) (s .args .cut) ≡ accepted
+passed-two : (c : tie.After-enum-told3) → let s = began₂ c in question-2 (s .args .years) (s .args .cut) ≡ accepted
 passed-two c = sym (two (c .before .before)) ∙ ap verdict-of (c .enum-told3 .given .1)
 
 -- n and Y as counts
-years : (c : tie.After-enum-told3) → YearsInRange (c .before .before .before .before .before .before .args .years)
-years c = years-accepted (c .before .before .before .before .before .before .args .years) (passed-one (c .before .before .before))
+years : (c : tie.After-enum-told3) → YearsInRange (began₂ c .args .years)
+years c = years-accepted (began₂ c .args .years) (passed-one (accepted₁ c))
 
-cut : (c : tie.After-enum-told3) → let s = c .before .before .before .before .before .before in CutInRange (s .args .cut) (natAbs (s .args .years))
+cut : (c : tie.After-enum-told3) → let s = began₂ c in CutInRange (s .args .cut) (natAbs (s .args .years))
 cut c =
-    let s = c .before .before .before .before .before .before in
+    let s = began₂ c in
     cut-accepted (s .args .years) (s .args .cut) (years c) (passed-two c)
 
-same-triangle : (c : tie.After-enum-told3) → let s = c .before .before .before .before .before .before in triangle s
+same-triangle : (c : tie.After-enum-told3) → let s = began₂ c in triangle s
     ≡ counted (natAbs (s .args .years)) (natAbs (s .args .cut)) (s .args .payments .now) (s .args .adjustments .now) (s .args .weights .now) (s .args .openings .now)
 same-triangle c =
-    let s = c .before .before .before .before .before .before in
+    let s = began₂ c in
     counted-is (s .args .years) (s .args .cut) (s .args .payments .now) (s .args .adjustments .now) (s .args .weights .now)
     (s .args .openings .now) (years c) (cut c)
 
 -- question 3
-right : (c : tie.After-lists-right) → let s = c .before .before .before .before .before .before .before in c .lists-right .result ≡ lists-right
+right : (c : tie.After-lists-right) → let s = began₂ (c .before) in c .lists-right .result ≡ lists-right
     (counted (natAbs (s .args .years)) (natAbs (s .args .cut)) (s .args .payments .now) (s .args .adjustments .now) (s .args .weights .now) (s .args .openings .now))
     (s .args .answers)
 right c =
-    let s = c .before .before .before .before .before .before .before in
+    let s = began₂ (c .before) in
     simp (toZ-ofZ (s .fits .years), toZ-ofZ (s .fits .cut)) at (c .lists-right .ensures)
 
-three : (c : tie.After-asked) → let s = c .before .before .before .before .before .before .before .before in
+three : (c : tie.After-asked) → let s = began₂ (c .before .before) in
     verdict-of (c .asked .result) ≡ question-3 (lists-right (triangle s) (s .args .answers))
 unfolding question-3
 three c =
-    let s = c .before .before .before .before .before .before .before .before in
+    let s = began₂ (c .before .before) in
     let e = right (c .before) ∙ ap (λ t. lists-right t (s .args .answers)) (sym (same-triangle (c .before .before))) in
     c .asked .ensures ∙ ap (λ b. ask b 3 nowhere) e
 
-passed-three : (c : tie.After-enum-told5) → let s = c .before .before .before .before .before .before .before .before .before .before in
+passed-three : (c : tie.After-enum-told5) → let s = began₃ c in
     question-3 (lists-right (triangle s) (s .args .answers)) ≡ accepted
 passed-three c = sym (three (c .before .before)) ∙ ap verdict-of (c .enum-told5 .given .1)
 
@@ -85,7 +101,7 @@ unfolding input-questions
 returns c = stopped _ (one (c .before .before)) (ap verdict-of (c .enum-told2 .given .1))
 
 question-2-requires : tie.Need-question-2-requires
-question-2-requires c κs = simp (toZ-ofZ (c .before .before .before .fits .years)) (passed-one c)
+question-2-requires c κs = simp (toZ-ofZ (began₁ c .fits .years)) (passed-one c)
 
 enum-told-3 : tie.Need-enum-told-3
 enum-told-3 c = search needs
@@ -98,16 +114,16 @@ unfolding input-questions
 returns-2 c = went-on (passed-one (c .before .before .before)) (stopped _ (two (c .before .before)) (ap verdict-of (c .enum-told4 .given .1)))
 
 cast-n : tie.Need-cast-n
-cast-n c = simp (toZ-ofZ (c .before .before .before .before .before .before .fits .years))
-    (count-fits (c .before .before .before .before .before .before .args .years) (years c .counted) (years c .most))
+cast-n c = simp (toZ-ofZ (began₂ c .fits .years))
+    (count-fits (began₂ c .args .years) (years c .counted) (years c .most))
 
 cast-y : tie.Need-cast-y
-cast-y c = simp (toZ-ofZ (c .before .before .before .before .before .before .fits .cut))
-    (count-fits (c .before .before .before .before .before .before .args .cut) (cut c .counted) (omega (arith, years c .most, cut c .most)))
+cast-y c = simp (toZ-ofZ (began₂ c .fits .cut))
+    (count-fits (began₂ c .args .cut) (cut c .counted) (omega (arith, years c .most, cut c .most)))
 
 lists-right-requires : tie.Need-lists-right-requires
 lists-right-requires c κs =
-    simp (toZ-ofZ (c .before .before .before .before .before .before .fits .years), toZ-ofZ (c .before .before .before .before .before .before .fits .cut))
+    simp (toZ-ofZ (began₂ c .fits .years), toZ-ofZ (began₂ c .fits .cut))
     (omega (arith, years c .fewest), years c .most, cut c .least)
 
 asked-requires : tie.Need-asked-requires
@@ -126,19 +142,19 @@ returns-3 c = went-on (passed-one (c .before .before .before .before .before .be
 
 list-questions-requires : tie.Need-list-questions-requires
 list-questions-requires c κs =
-    let s = c .before .before .before .before .before .before .before .before .before .before in
-    let before = c .before .before .before .before in
+    let s = began₃ c in
+    let before = accepted₂ c in
     simp (toZ-ofZ (s .fits .years), toZ-ofZ (s .fits .cut))
     (lists-lent (s .args .years) (s .args .cut) _ _ _ _ (years before) (cut before) (s .args .answers) (sym (right (c .before .before .before)) ∙ said-yes c))
 
 returns-4 : tie.Need-returns-4
 unfolding input-questions
 returns-4 c =
-    let s = c .before .before .before .before .before .before .before .before .before .before .before in
+    let s = began₃ (c .before) in
     let asked = simp (toZ-ofZ (s .fits .years), toZ-ofZ (s .fits .cut)) at (c .list-questions .ensures) in
-    went-on (passed-one (c .before .before .before .before .before .before .before .before))
-    (went-on (passed-two (c .before .before .before .before .before))
-    (went-on (passed-three (c .before)) (asked ∙ ap list-questions (sym (same-triangle (c .before .before .before .before .before))))))
+    went-on (passed-one (accepted₁ (accepted₂ (c .before))))
+    (went-on (passed-two (accepted₂ (c .before)))
+    (went-on (passed-three (c .before)) (asked ∙ ap list-questions (sym (same-triangle (accepted₂ (c .before)))))))
 
 pub input-questions-spec : {M : Type 1} → statement M
 input-questions-spec =

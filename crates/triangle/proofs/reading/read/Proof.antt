@@ -19,30 +19,34 @@ use Rattle.triangle.proofs.reading.read.Tie as tie
 abbrev triangle : tie.Start → Triangle
 triangle s = lent (s .args .years) (s .args .cut) (s .args .payments .now) (s .args .adjustments .now) (s .args .weights .now) (s .args .openings .now)
 
+-- where the code began, seen from the state in which questions 1 to 7 have accepted
+abbrev began : tie.After-enum-told → tie.Start
+began c = c .before .before .before
+
 -- questions 1 to 7
 inputs : (c : tie.After-input-questions) → let s = c .before in
     verdict-of (c .input-questions .result) ≡ input-questions (triangle s) (lists-right (triangle s) (s .args .answers))
 inputs c = simp (toZ-ofZ (c .before .fits .years), toZ-ofZ (c .before .fits .cut)) at (c .input-questions .ensures)
 
-passed : (c : tie.After-enum-told) → let s = c .before .before .before in input-questions (triangle s) (lists-right (triangle s) (s .args .answers)) ≡ accepted
+passed : (c : tie.After-enum-told) → let s = began c in input-questions (triangle s) (lists-right (triangle s) (s .args .answers)) ≡ accepted
 passed c = sym (inputs (c .before .before)) ∙ ap verdict-of (c .enum-told .given .1)
 
-read-of : (c : tie.After-enum-told) → Observed (triangle (c .before .before .before))
+read-of : (c : tie.After-enum-told) → Observed (triangle (began c))
 read-of c =
-    let a = c .before .before .before .args in
+    let a = began c .args in
     observed (a .years) (a .cut) (a .payments .now) (a .adjustments .now) (a .weights .now) (a .openings .now) (a .answers) (passed c)
 
 -- the ratios, and question 8
-made : (c : tie.After-development-of) → DevelopmentOf (triangle (c .before .before .before .before)) (c .development-of .result .ratios) (c .development-of .result .outstandings)
+made : (c : tie.After-development-of) → DevelopmentOf (triangle (began (c .before))) (c .development-of .result .ratios) (c .development-of .result .outstandings)
 made c =
-    let s = c .before .before .before .before in
+    let s = began (c .before) in
     development-is (s .args .years) (s .args .cut) (s .args .payments .now) (s .args .adjustments .now) (s .args .weights .now)
     (s .args .openings .now) (s .args .answers)
     (passed (c .before)) (c .development-of .result) (simp (toZ-ofZ (s .fits .years)) at (c .development-of .ensures))
 
-eight : (c : tie.After-question-8) → verdict-of (c .question-8 .result) ≡ question-8 (triangle (c .before .before .before .before .before .before))
+eight : (c : tie.After-question-8) → verdict-of (c .question-8 .result) ≡ question-8 (triangle (began (c .before .before .before)))
 eight c =
-    let s = c .before .before .before .before .before .before in
+    let s = began (c .before .before .before) in
     (simp (toZ-ofZ (s .fits .years)) at (c .question-8 .ensures)) ∙ question-8-is (triangle s) _ _ (made (c .before .before))
 
 input-questions-requires : tie.Need-input-questions-requires
@@ -64,16 +68,16 @@ returns c =
     rw (c .refused .ensures) (refused-reading _ _ _ (stopped _ (inputs (c .before .before .before)) no) no)
 
 cast-n : tie.Need-cast-n
-cast-n c = simp (toZ-ofZ (c .before .before .before .fits .years)) (count-fits (c .before .before .before .args .years)
+cast-n c = simp (toZ-ofZ (began c .fits .years)) (count-fits (began c .args .years)
     (read-of c .years .counted) (read-of c .years .most))
 
 development-of-requires : tie.Need-development-of-requires
 development-of-requires c κs =
-    let a = c .before .before .before .args in
-    simp (toZ-ofZ (c .before .before .before .fits .years)) (readable (a .years) (a .cut) _ _ _ _ (a .answers) (passed c))
+    let a = began c .args in
+    simp (toZ-ofZ (began c .fits .years)) (readable (a .years) (a .cut) _ _ _ _ (a .answers) (passed c))
 
 question-8-requires : tie.Need-question-8-requires
-question-8-requires c κs = simp (toZ-ofZ (c .before .before .before .before .before .fits .years)) (read-of (c .before .before) .years .most)
+question-8-requires c κs = simp (toZ-ofZ (began (c .before .before) .fits .years)) (read-of (c .before .before) .years .most)
 
 enum-told-3 : tie.Need-enum-told-3
 enum-told-3 c = search needs

@@ -13,18 +13,22 @@ use Rattle.triangle.proofs.RowParts.{refused-row, accepted-row, inside-
 use Rattle.triangle.proofs.row.row.Statement.{statement}
 use Rattle.triangle.proofs.row.row.Tie as tie
 
+-- where the code began, seen from the state in which the row is accepted
+abbrev began : tie.After-enum-told → tie.Start
+began c = c .before .before .before .before
+
 asked : (c : tie.After-row-verdict) → let a = c .before .before .args in
     verdict-of (c .row-verdict .result) ≡ row-verdict (a .years) (a .payments .now) (a .adjustments .now) (a .accident-year)
 asked c = simp (toZ-ofZ (c .before .before .fits .years), toZ-ofZ (c .before .before .fits .accident-year)) at (c .row-verdict .ensures)
 
-passed : (c : tie.After-enum-told) → let a = c .before .before .before .before .args in
+passed : (c : tie.After-enum-told) → let a = began c .args in
     row-verdict (a .years) (a .payments .now) (a .adjustments .now) (a .accident-year) ≡ accepted
 passed c = sym (asked (c .before .before)) ∙ ap verdict-of (c .enum-told .given .1)
 
-rows : (c : tie.After-enum-told) → let a = c .before .before .before .before .args in
+rows : (c : tie.After-enum-told) → let a = began c .args in
     RowAccepted (a .years) (a .payments .now) (a .adjustments .now) (a .accident-year)
 rows c =
-    let a = c .before .before .before .before .args in
+    let a = began c .args in
     row-accepted (a .years) (a .payments .now) (a .adjustments .now) (a .accident-year) (passed c)
 
 named-list-requires : tie.Need-named-list-requires
@@ -53,16 +57,16 @@ returns c = refused-row _ _ _ _ (amounts-of (c .before .before .before .before .
     (sym (asked (c .before .before .before)) ∙ ap verdict-of (c .before .enum-told2 .given .1))
 
 cast-row-of : tie.Need-cast-row-of
-cast-row-of c = simp (toZ-ofZ (c .before .before .before .before .fits .years))
-    (count-fits (c .before .before .before .before .args .years) (rows c .years-right .counted) (rows c .years-right .most))
+cast-row-of c = simp (toZ-ofZ (began c .fits .years))
+    (count-fits (began c .args .years) (rows c .years-right .counted) (rows c .years-right .most))
 
 cast-row-of-2 : tie.Need-cast-row-of-2
-cast-row-of-2 c = simp (toZ-ofZ (c .before .before .before .before .fits .accident-year))
-    (count-fits (c .before .before .before .before .args .accident-year) (rows c .counted) (omega (arith, rows c .last, rows c .years-right .most)))
+cast-row-of-2 c = simp (toZ-ofZ (began c .fits .accident-year))
+    (count-fits (began c .args .accident-year) (rows c .counted) (omega (arith, rows c .last, rows c .years-right .most)))
 
 row-of-requires : tie.Need-row-of-requires
 row-of-requires c κs =
-    let s = c .before .before .before .before in
+    let s = began c in
     simp (toZ-ofZ (s .fits .years), toZ-ofZ (s .fits .accident-year), c .before .before .before .named-list .ensures)
     (inside-named-list _ _ _ _ (amounts-of (s .args .named)) (passed c))
 

@@ -11,33 +11,40 @@ use Rattle.questions.proofs.Counted.{count-fits}
 use Rattle.triangle.proofs.row.row_verdict.Statement.{statement}
 use Rattle.triangle.proofs.row.row_verdict.Tie as tie
 
+-- where the code began, seen from a state in which question 1 or 3 has accepted
+abbrev began₁ : tie.After-enum-told → tie.Start
+began₁ c = c .before .before .before
+
+abbrev began₃ : tie.After-enum-told3 → tie.Start
+began₃ c = began₁ (c .before .before .before .before)
+
 -- each question's verdict, and what it is where the next one is asked
 one : (c : tie.After-question-1) → verdict-of (c .question-1 .result) ≡ question-1 (c .before .args .years)
 one c = simp (toZ-ofZ (c .before .fits .years)) at (c .question-1 .ensures)
 
-passed-one : (c : tie.After-enum-told) → question-1 (c .before .before .before .args .years) ≡ accepted
+passed-one : (c : tie.After-enum-told) → question-1 (began₁ c .args .years) ≡ accepted
 passed-one c = sym (one (c .before .before)) ∙ ap verdict-of (c .enum-told .given .1)
 
-years : (c : tie.After-enum-told) → YearsInRange (c .before .before .before .args .years)
-years c = years-accepted (c .before .before .before .args .years) (passed-one c)
+years : (c : tie.After-enum-told) → YearsInRange (began₁ c .args .years)
+years c = years-accepted (began₁ c .args .years) (passed-one c)
 
-three : (c : tie.After-asked) → let s = c .before .before .before .before .before in
+three : (c : tie.After-asked) → let s = began₁ (c .before .before) in
     verdict-of (c .asked .result) ≡ question-3 (both-lengths-right (s .args .years) (s .args .payments .now) (s .args .adjustments .now))
 unfolding question-3 both-lengths-right
 three c =
-    let s = c .before .before .before .before .before in
+    let s = began₁ (c .before .before) in
     let right = simp (toZ-ofZ (s .fits .years)) at (c .before .both-lengths-right .ensures) in
     c .asked .ensures ∙ ap (λ b. ask b 3 nowhere) right
 
-passed-three : (c : tie.After-enum-told3) → let s = c .before .before .before .before .before .before .before in
+passed-three : (c : tie.After-enum-told3) → let s = began₃ c in
     question-3 (both-lengths-right (s .args .years) (s .args .payments .now) (s .args .adjustments .now)) ≡ accepted
 passed-three c = sym (three (c .before .before)) ∙ ap verdict-of (c .enum-told3 .given .1)
 
-ten : (c : tie.After-asked2) → let s = c .before .before .before .before .before .before .before .before .before in
+ten : (c : tie.After-asked2) → let s = began₃ (c .before .before) in
     verdict-of (c .asked2 .result) ≡ question-10 (accident-year-in-range (s .args .years) (s .args .accident-year))
 unfolding question-10 accident-year-in-range
 ten c =
-    let s = c .before .before .before .before .before .before .before .before .before in
+    let s = began₃ (c .before .before) in
     let in-range = simp (toZ-ofZ (s .fits .years), toZ-ofZ (s .fits .accident-year)) at (c .before .from-to .ensures) in
     c .asked2 .ensures ∙ ap (λ b. ask b 10 nowhere) in-range
 
@@ -55,11 +62,11 @@ unfolding row-verdict
 returns c = stopped _ (one (c .before .before)) (ap verdict-of (c .enum-told2 .given .1))
 
 cast-both-lengths-right : tie.Need-cast-both-lengths-right
-cast-both-lengths-right c = simp (toZ-ofZ (c .before .before .before .fits .years))
-    (count-fits (c .before .before .before .args .years) (years c .counted) (years c .most))
+cast-both-lengths-right c = simp (toZ-ofZ (began₁ c .fits .years))
+    (count-fits (began₁ c .args .years) (years c .counted) (years c .most))
 
 both-lengths-right-requires : tie.Need-both-lengths-right-requires
-both-lengths-right-requires c κs = simp (toZ-ofZ (c .before .before .before .fits .years)) (years c .most)
+both-lengths-right-requires c κs = simp (toZ-ofZ (began₁ c .fits .years)) (years c .most)
 
 asked-requires : tie.Need-asked-requires
 asked-requires c κs = search needs
