@@ -1,4 +1,4 @@
-//! The proved share beside two versions that an engineer would write in Rust: first that all three answer alike, then how long each takes.
+//! The proved share beside two versions that an engineer would write in Rust, each with and without a test of its arguments: first that all answer alike, then how long each takes.
 
 use std::hint::black_box;
 use std::process::exit;
@@ -27,7 +27,7 @@ const ROUNDED: i64 = 0;
 const TOO_LARGE: i64 = 1;
 const OUTSIDE: i64 = 2;
 
-// ---- The three versions
+// ---- The versions
 
 fn proved((outstanding, part, exposure): Input) -> Answer {
     unsafe { juniperprow_share(outstanding, part, exposure) }
@@ -39,13 +39,9 @@ fn outside((outstanding, part, exposure): Input) -> bool {
         || !(1..=GREATEST_SUM).contains(&exposure)
 }
 
-/// By the definition, on signed 128-bit numbers.
-#[inline(never)]
-fn by_i128(input: Input) -> Answer {
-    if outside(input) {
-        return Answer { outcome: OUTSIDE, value: 0 };
-    }
-    let (outstanding, part, exposure) = input;
+/// By the definition, on signed 128-bit numbers, for arguments within their limits.
+#[inline(always)]
+fn on_i128((outstanding, part, exposure): Input) -> Answer {
     let share = (2 * outstanding as i128 * part as i128 + exposure as i128).div_euclid(2 * exposure as i128);
     if share.abs() > GREATEST_FIGURE as i128 {
         return Answer { outcome: TOO_LARGE, value: 0 };
@@ -53,13 +49,9 @@ fn by_i128(input: Input) -> Answer {
     Answer { outcome: ROUNDED, value: share as i64 }
 }
 
-/// By sign and size, on unsigned 128-bit numbers.
-#[inline(never)]
-fn by_u128(input: Input) -> Answer {
-    if outside(input) {
-        return Answer { outcome: OUTSIDE, value: 0 };
-    }
-    let (outstanding, part, exposure) = input;
+/// By sign and size, on unsigned 128-bit numbers, for arguments within their limits.
+#[inline(always)]
+fn on_u128((outstanding, part, exposure): Input) -> Answer {
     let dividend = outstanding as u128 * part.unsigned_abs() as u128;
     let divisor = exposure as u128;
     let (cut, rest) = (dividend / divisor, dividend % divisor);
@@ -69,6 +61,33 @@ fn by_u128(input: Input) -> Answer {
     }
     let value = size as i64;
     Answer { outcome: ROUNDED, value: if part < 0 { -value } else { value } }
+}
+
+#[inline(always)]
+fn tested(input: Input, version: impl Fn(Input) -> Answer) -> Answer {
+    if outside(input) { Answer { outcome: OUTSIDE, value: 0 } } else { version(input) }
+}
+
+// Each is a call of its own, as the proved share is.
+
+#[inline(never)]
+fn by_i128(input: Input) -> Answer {
+    on_i128(input)
+}
+
+#[inline(never)]
+fn by_u128(input: Input) -> Answer {
+    on_u128(input)
+}
+
+#[inline(never)]
+fn tested_by_i128(input: Input) -> Answer {
+    tested(input, on_i128)
+}
+
+#[inline(never)]
+fn tested_by_u128(input: Input) -> Answer {
+    tested(input, on_u128)
 }
 
 // ---- Inputs
@@ -167,6 +186,13 @@ fn edges() -> Vec<Input> {
 
 // ---- The same answers
 
+fn expect(input: Input, answer: Answer, name: &str, other: Answer) {
+    if answer != other {
+        println!("FAILED at {input:?}: the proved share answers {answer:?}, {name} {other:?}");
+        exit(1);
+    }
+}
+
 #[derive(Default)]
 struct Counts {
     inputs: u64,
@@ -178,11 +204,11 @@ struct Counts {
 impl Counts {
     fn compare(&mut self, input: Input) {
         let answer = proved(input);
-        for (name, other) in [("i128", by_i128(input)), ("u128", by_u128(input))] {
-            if answer != other {
-                println!("FAILED at {input:?}: the proved share answers {answer:?}, {name} {other:?}");
-                exit(1);
-            }
+        expect(input, answer, "i128 after a test", tested_by_i128(input));
+        expect(input, answer, "u128 after a test", tested_by_u128(input));
+        if !outside(input) {
+            expect(input, answer, "i128", by_i128(input));
+            expect(input, answer, "u128", by_u128(input));
         }
         self.inputs += 1;
         self.outcomes[answer.outcome as usize] += 1;
@@ -235,22 +261,29 @@ fn median(mut times: Vec<f64>) -> f64 {
 }
 
 fn time(name: &str, kind: fn(&mut Random) -> Input, random: &mut Random) {
-    let mut times = [Vec::new(), Vec::new(), Vec::new()];
+    let mut times: [Vec<f64>; 5] = Default::default();
     for _ in 0..ROUNDS {
         let inputs: Vec<Input> = (0..INPUTS).map(|_| kind(random)).collect();
         times[0].push(nanoseconds(&inputs, proved));
         times[1].push(nanoseconds(&inputs, by_i128));
         times[2].push(nanoseconds(&inputs, by_u128));
+        times[3].push(nanoseconds(&inputs, tested_by_i128));
+        times[4].push(nanoseconds(&inputs, tested_by_u128));
     }
-    let [share, by_i128, by_u128] = times.map(median);
-    println!("{name:<22} {share:>8.2} {by_i128:>8.2} {by_u128:>8.2} {:>12.2} {:>12.2}", share / by_i128, share / by_u128);
+    let [share, by_i128, by_u128, tested_by_i128, tested_by_u128] = times.map(median);
+    line(name, "no test", share, by_i128, by_u128);
+    line(name, "test", share, tested_by_i128, tested_by_u128);
+}
+
+fn line(name: &str, versions: &str, share: f64, by_i128: f64, by_u128: f64) {
+    println!("{name:<18} {versions:<8} {share:>8.2} {by_i128:>8.2} {by_u128:>8.2} {:>12.2} {:>12.2}", share / by_i128, share / by_u128);
 }
 
 fn main() {
     let mut random = Random(SEED);
     compare_all(&mut random);
-    println!("nanoseconds a call, median of {ROUNDS} rounds of {INPUTS} inputs");
-    println!("{:<22} {:>8} {:>8} {:>8} {:>12} {:>12}", "", "share", "i128", "u128", "share/i128", "share/u128");
+    println!("nanoseconds a call, median of {ROUNDS} rounds of {INPUTS} inputs; the share tests its arguments, the versions in Rust do or do not");
+    println!("{:<27} {:>8} {:>8} {:>8} {:>12} {:>12}", "", "share", "i128", "u128", "share/i128", "share/u128");
     time("any in range", in_range, &mut random);
     time("weights up to 2", with_weights_to_2, &mut random);
     time("weights up to 100", with_weights_to_100, &mut random);
