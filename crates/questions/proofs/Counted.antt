@@ -1,15 +1,9 @@
 -- The triangle of a call once questions 1 to 3 have accepted: n and Y as counts, and every list of its length.
-use mathlib.Core.Path.{_≡_, sym, ap₂, subst}
+use mathlib.Core.Path.{_≡_, ap₂}
 use mathlib.Core.Bool.{true}
 use mathlib.Core.List.{List}
-use Prim.Native.Nat.{_≤_}
-use native.Mathlib.Omega.{arith}
-use lib.Dec.{T, eqb}
-use lib.IntN.{ℤ, pos, natAbs}
-use lib.Signed.{nonNeg}
-use mir.Syntax.{w64}
-use mir.Val.{Fits}
-use Rattle.method.specs.Limits.{most-accident-years}
+use lib.Dec.{eqb}
+use lib.IntN.{ℤ, natAbs}
 use Rattle.method.specs.Triangle.{Triangle, n, reserves-length}
 use Rattle.method.specs.Questions.{input-lengths-right, lengths-right}
 use Rattle.method.proofs.Tests.{and-true}
@@ -17,10 +11,6 @@ use Rattle.method.proofs.QuestionFacts.{YearsInRange, CutInRange, InputLengths,
 use Rattle.questions.specs.declared.inputs.AnswerLists.{AnswerLists}
 use Rattle.questions.specs.declared.inputs.AnswerLists.the-variants.{NotLent, OfLengths}
 use Rattle.questions.specs.Lent.{lent, counted, lists-right, ListsLent}
-
--- a count as the code casts it
-pub count-fits : (z : ℤ) → z ≡ pos (natAbs z) → natAbs z ≤ most-accident-years → T (nonNeg z) × Fits w64 (natAbs z)
-count-fits z e h = (subst (λ (x : ℤ). T (nonNeg x)) (sym e) tt, record { fits = omega arith })
 
 -- where question 3 was answered yes
 pub lists-have-lengths : (t : Triangle) (answers : AnswerLists) → lists-right t answers ≡ true → InputLengths t

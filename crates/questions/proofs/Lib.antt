@@ -1,5 +1,4 @@
 -- Laws that serve several functions, from below.
-pub mod Lengths
 pub mod Counted
 pub mod RowWalk
 pub mod CellTests

@@ -4,13 +4,13 @@ ghost use Prim.Native.Nat.{_+_, _≤_};
 ghost use lib.ListN.{length};
 ghost use Rattle.method.specs.Limits.{most-accident-years};
 ghost use Rattle.method.specs.Triangle.{amounts-length};
-ghost use Rattle.questions.specs.Verdicts.{verdict-of};
+ghost use Rattle.verdicts.specs.Verdicts.{verdict-of};
 ghost use Rattle.questions.specs.Cells.{passes, number-of, empty-where-missing, row-of-list, whole-list};
-use crate::limits::GREATEST_AMOUNT;
-use crate::limits::GREATEST_WEIGHT;
-use crate::limits::from_to;
-use crate::verdict::Verdict;
-use crate::verdict::refusal_at;
+use verdicts::limits::GREATEST_AMOUNT;
+use verdicts::limits::GREATEST_WEIGHT;
+use verdicts::limits::from_to;
+use verdicts::verdict::Verdict;
+use verdicts::verdict::refusal_at;
 
 // What is asked of a number of a list.
 pub(crate) enum CellTest {

@@ -5,18 +5,17 @@ ghost use lib.ListN.{length};
 ghost use Rattle.method.specs.Limits.{most-accident-years};
 ghost use Rattle.method.specs.Triangle.{amounts-length};
 ghost use Rattle.method.specs.Questions.{accepted, _then_, question-1, question-2, list-questions, input-questions, input-lengths-right};
-ghost use Rattle.questions.specs.Verdicts.{verdict-of};
+ghost use Rattle.verdicts.specs.Verdicts.{verdict-of};
 ghost use Rattle.questions.specs.Cells.{whole-list};
 ghost use Rattle.questions.specs.declared.cells.CellTest.the-variants.{AmountRight};
 ghost use Rattle.questions.specs.Lent.{lent, counted, lists-right, ListsLent};
 use crate::cells::CellTest;
 use crate::cells::first_refusal;
-use crate::limits::FEWEST_YEARS;
-use crate::limits::MOST_YEARS;
-use crate::limits::from_to;
 use crate::outstandings::question_6;
-use crate::verdict::Verdict;
-use crate::verdict::asked;
+use verdicts::limits::from_to;
+use verdicts::verdict::Verdict;
+use verdicts::verdict::asked;
+use verdicts::years::question_1;
 
 // The lengths of the answer lists of a call, where it lends them.
 pub enum AnswerLists {
@@ -55,13 +54,6 @@ pub fn input_questions<'a>(
         return third;
     };
     list_questions(n, y, payments, adjustments, weights, openings)
-}
-
-// Whether n is from 2 to 32.
-pub fn question_1(years: i64) -> Verdict
-    ensures { λ r. ⌜ verdict-of r ≡ question-1 years ⌝ }
-{
-    asked(from_to(FEWEST_YEARS, MOST_YEARS, years), 1)
 }
 
 // Whether the cut is from 1 to n − 1.

@@ -4,12 +4,12 @@ ghost use Prim.Native.Nat.{_+_, _≤_, suc};
 ghost use lib.IntN.{_+ℤ_, _-ℤ_};
 ghost use Rattle.method.specs.Limits.{most-accident-years};
 ghost use Rattle.method.specs.Triangle.{entry};
-ghost use Rattle.questions.specs.Verdicts.{verdict-of};
+ghost use Rattle.verdicts.specs.Verdicts.{verdict-of};
 ghost use Rattle.questions.specs.Observed.{AmountsRight, RowRight, in-range-where-known, row-of-outstandings, all-outstandings, Movable};
-use crate::limits::GREATEST_OUTSTANDING;
-use crate::limits::from_to;
-use crate::verdict::Verdict;
-use crate::verdict::refusal_at;
+use verdicts::limits::GREATEST_OUTSTANDING;
+use verdicts::limits::from_to;
+use verdicts::verdict::Verdict;
+use verdicts::verdict::refusal_at;
 
 // The first opening or outstanding out of range, if there is one.
 pub(crate) fn question_6<'a>(

@@ -1,9 +1,9 @@
 // The share as a benchmark links it, for any three 64-bit numbers.
 ghost use mathlib.Core.Path.{_≡_};
 ghost use Rattle.share_benchmark.specs.ShareAnswer.{as-answer, share-answer};
-use questions::limits::from_to;
 use share::Share;
 use share::millionths::Millionths;
+use verdicts::limits::from_to;
 
 // Outcome 0 with the share in millionths; 1 where it is too large and 2 where an argument is outside its limits, with value 0.
 #[repr(C)]

@@ -6,4 +6,3 @@ pub mod AllRatios
 pub mod Exposures
 pub mod Tables
 pub mod ReadingAnswers
-pub mod RowParts

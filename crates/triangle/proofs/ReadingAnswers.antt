@@ -8,11 +8,11 @@ use Rattle.method.specs.Triangle.{Triangle}
 use Rattle.method.specs.Questions.{Place, Verdict, accepted, refused, input-lengths-right, input-questions, observed-questions}
 use Rattle.method.proofs.QuestionFacts as facts
 use Rattle.method.proofs.QuestionFacts.{Observed, observed-triangle}
+use Rattle.verdicts.specs.declared.verdict.Verdict as code
+use Rattle.verdicts.specs.Verdicts.{verdict-of}
 use Rattle.questions.specs.declared.inputs.AnswerLists.{AnswerLists}
-use Rattle.triangle.specs.declared.ratios.Development.{Development}
-use Rattle.questions.specs.declared.verdict.Verdict as code
-use Rattle.questions.specs.Verdicts.{verdict-of}
 use Rattle.questions.specs.Lent.{lent, counted, lists-right}
+use Rattle.triangle.specs.declared.ratios.Development.{Development}
 use Rattle.triangle.specs.Ratios.{DevelopmentOf, Readable, DevelopmentRead}
 use Rattle.triangle.specs.Reading.{no-development, development, ReadingOf}
 use Rattle.triangle.proofs.Tables.{read-is}

@@ -1,4 +1,3 @@
-// Reading a triangle: its ratios, question 8, and its rows.
+// Reading a triangle: its ratios, and question 8.
 pub mod ratios;
 pub mod reading;
-pub mod row;

@@ -3,10 +3,10 @@ ghost use mathlib.Core.Path.{_≡_};
 ghost use lib.IntN.{_+ℤ_, _*ℤ_};
 ghost use Prim.Native.Nat.{_-_, _≤_};
 ghost use Rattle.triangle.specs.Ratios.{Readable, DevelopmentRead, FirstYear, FirstOutstandings, YearInput, partial-sums, MovedOn, sums-of, Addable, with-row, Summable};
-use questions::limits::ACCIDENT_YEARS;
-use questions::limits::DEVELOPMENT_YEARS;
 use questions::outstandings::next_outstanding;
 use questions::outstandings::opening_of;
+use verdicts::limits::ACCIDENT_YEARS;
+use verdicts::limits::DEVELOPMENT_YEARS;
 
 // The sums of a development year k, over the accident years i from 1 to n − k.
 pub struct Sums {

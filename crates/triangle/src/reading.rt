@@ -2,7 +2,7 @@
 ghost use mathlib.Core.Path.{_≡_};
 ghost use Prim.Native.Nat.{_≤_};
 ghost use Rattle.method.specs.Limits.{most-accident-years};
-ghost use Rattle.questions.specs.Verdicts.{verdict-of};
+ghost use Rattle.verdicts.specs.Verdicts.{verdict-of};
 ghost use Rattle.questions.specs.Lent.{lent};
 ghost use Rattle.triangle.specs.Reading.{no-development, exposures, ReadingOf};
 use crate::ratios::Development;
@@ -11,10 +11,10 @@ use crate::ratios::Sums;
 use crate::ratios::development_of;
 use questions::inputs::AnswerLists;
 use questions::inputs::input_questions;
-use questions::limits::ACCIDENT_YEARS;
-use questions::limits::DEVELOPMENT_YEARS;
-use questions::verdict::Verdict;
-use questions::verdict::refusal_at;
+use verdicts::limits::ACCIDENT_YEARS;
+use verdicts::limits::DEVELOPMENT_YEARS;
+use verdicts::verdict::Verdict;
+use verdicts::verdict::refusal_at;
 
 // The verdict of questions 1 to 8, and what the triangle shows of its development; zeros where it is refused.
 pub struct Reading {

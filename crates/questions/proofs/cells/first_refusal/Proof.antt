@@ -6,7 +6,7 @@ use Rattle.method.specs.Questions.{each-cell}
 use Rattle.method.proofs.Rows.{part-length}
 use Rattle.questions.specs.Cells.{row-of-list, whole-list}
 use Rattle.method.proofs.FirstRefusal.{next-refused, all-accepted}
-use Rattle.questions.specs.Verdicts.{verdict-of}
+use Rattle.verdicts.specs.Verdicts.{verdict-of}
 use Rattle.questions.proofs.CellTests.{rows-of-list, row-as-part}
 use Rattle.questions.proofs.RowWalk.{RowsPassed, before-first-row, row-end-inside, before-next-row, part-is-row}
 use borrow.Author.Needs.{needs}

@@ -4,7 +4,7 @@ use mathlib.Core.Path.{refl}
 use Prim.Native.Nat.{_+_, _-_}
 use native.Mathlib.Omega.{arith}
 use Rattle.method.specs.Questions.{input-lengths-right}
-use Rattle.questions.proofs.Lengths.{few-cells}
+use Rattle.verdicts.proofs.Counts.{few-cells}
 use Rattle.questions.proofs.inputs.input_lengths_right.Statement.{statement}
 use Rattle.questions.proofs.inputs.input_lengths_right.Tie as tie
 

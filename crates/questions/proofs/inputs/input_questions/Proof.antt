@@ -9,9 +9,10 @@ use Rattle.method.specs.Triangle.{Triangle}
 use Rattle.method.specs.Questions.{accepted, nowhere, ask, question-1, question-2, question-3, list-questions, input-questions}
 use Rattle.method.proofs.FirstRefusal.{ask-accepted, stopped, went-on}
 use Rattle.method.proofs.QuestionFacts.{YearsInRange, CutInRange, years-accepted, cut-accepted}
-use Rattle.questions.specs.Verdicts.{verdict-of}
+use Rattle.verdicts.specs.Verdicts.{verdict-of}
+use Rattle.verdicts.proofs.Counts.{count-fits}
 use Rattle.questions.specs.Lent.{lent, counted, lists-right}
-use Rattle.questions.proofs.Counted.{count-fits, counted-is, lists-lent}
+use Rattle.questions.proofs.Counted.{counted-is, lists-lent}
 use Rattle.questions.proofs.inputs.input_questions.Statement.{statement}
 use Rattle.questions.proofs.inputs.input_questions.Tie as tie
 

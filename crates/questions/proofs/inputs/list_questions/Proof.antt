@@ -6,7 +6,7 @@ use Rattle.method.specs.Triangle.{Triangle}
 use Rattle.method.specs.Questions.{accepted, question-4, question-5, question-6, list-questions}
 use Rattle.method.proofs.FirstRefusal.{stopped, went-on, then-accepted}
 use Rattle.method.proofs.Positions.{weights-length-is}
-use Rattle.questions.specs.Verdicts.{verdict-of}
+use Rattle.verdicts.specs.Verdicts.{verdict-of}
 use Rattle.questions.specs.Lent.{counted}
 use Rattle.questions.proofs.CellTests.{question-4-is, question-5-is, question-7-is}
 use Rattle.questions.proofs.ObservedRows.{question-6-is}

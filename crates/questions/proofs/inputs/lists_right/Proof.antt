@@ -4,7 +4,7 @@ use Prim.Native.Nat.{_+_, _*_, _-_, _≤_}
 use native.Mathlib.Omega.{arith}
 use Rattle.method.specs.Limits.{most-accident-years}
 use Rattle.method.specs.Questions.{lengths-right}
-use Rattle.questions.proofs.Lengths.{few-cells}
+use Rattle.verdicts.proofs.Counts.{few-cells}
 use Rattle.questions.proofs.inputs.lists_right.Statement.{statement}
 use Rattle.questions.proofs.inputs.lists_right.Tie as tie
 

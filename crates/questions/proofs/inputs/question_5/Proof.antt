@@ -2,7 +2,7 @@
 use borrow.Author.Needs.{needs}
 use mathlib.Core.Path.{sym, ap, _∙_}
 use Rattle.method.proofs.FirstRefusal.{stopped, went-on}
-use Rattle.questions.specs.Verdicts.{verdict-of}
+use Rattle.verdicts.specs.Verdicts.{verdict-of}
 use Rattle.questions.proofs.inputs.question_5.Statement.{statement}
 use Rattle.questions.proofs.inputs.question_5.Tie as tie
 

@@ -8,7 +8,7 @@ use mir.Val.{toZ, ofZ}
 use Rattle.integers.proofs.MachineArithmetic.{held}
 use Rattle.method.specs.Triangle.{amounts-length, entry}
 use Rattle.method.proofs.FirstRefusal.{next-refused, all-accepted}
-use Rattle.questions.specs.Verdicts.{verdict-of}
+use Rattle.verdicts.specs.Verdicts.{verdict-of}
 use Rattle.questions.specs.Observed.{outstandings-of-year, all-outstandings}
 use Rattle.questions.proofs.RowWalk.{RowsPassed, before-first-row, row-end-inside, before-next-row, part-is-row}
 use Rattle.questions.proofs.ObservedRows.{outstandings-of-row, row-right}

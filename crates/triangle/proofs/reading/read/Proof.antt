@@ -6,10 +6,10 @@ use Rattle.method.specs.Triangle.{Triangle}
 use Rattle.method.specs.Questions.{accepted, input-questions, question-8, observed-questions}
 use Rattle.method.proofs.FirstRefusal.{stopped, went-on}
 use Rattle.method.proofs.QuestionFacts.{Observed}
-use Rattle.questions.specs.Verdicts.{verdict-of}
+use Rattle.verdicts.specs.Verdicts.{verdict-of}
+use Rattle.verdicts.proofs.Counts.{count-fits}
 use Rattle.questions.specs.Lent.{lent, lists-right}
 use Rattle.triangle.specs.Ratios.{DevelopmentOf}
-use Rattle.questions.proofs.Counted.{count-fits}
 use Rattle.triangle.proofs.Exposures.{question-8-is}
 use Rattle.triangle.proofs.ReadingAnswers.{refused-reading, accepted-reading, observed, readable, development-is}
 use Rattle.triangle.proofs.reading.read.Statement.{statement}

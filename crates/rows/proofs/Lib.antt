@@ -1,0 +1,2 @@
+-- The laws of a row that is handed back.
+pub mod RowParts
