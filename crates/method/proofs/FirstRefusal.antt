@@ -5,14 +5,17 @@ use Prim.Native.Nat.{ℕ, zero, suc, _+_, _-_, _≤_, _<_}
 use native.Mathlib.Numerals.{add-one}
 use native.Mathlib.Decide.{decLe}
 use native.Mathlib.Omega.{arith}
-use Rattle.method.specs.Counting.{up-to}
 use Rattle.method.specs.Questions.{Place, Verdict, accepted, refused, at, _then_, ask, first-to, each-in-row, each-cell}
+use Rattle.method.proofs.Counting.{up-to-none, up-to-more, up-to-same}
 
 -- ---- One question, and one after another
 
 abbrev IsAccepted : Verdict → Type 0
 IsAccepted accepted = Unit {0}
 IsAccepted (refused question p) = ⊥
+
+pub not-both : {v : Verdict} {question : ℕ} {p : Place} → v ≡ accepted → v ≡ refused question p → ⊥
+not-both a r = subst IsAccepted (sym a ∙ r) tt
 
 pub ask-yes : (b : Bool) (question : ℕ) (p : Place) → b ≡ true → ask b question p ≡ accepted
 unfolding ask
@@ -50,12 +53,12 @@ then-accepted (refused question p) w e = absurd (subst IsAccepted (sym e) tt)
 -- ---- f 1, …, f m
 
 first-none : (f : ℕ → Verdict) → first-to 0 f ≡ accepted
-unfolding first-to up-to
-first-none f = refl
+unfolding first-to
+first-none = up-to-none _then_ accepted
 
 first-more : (m : ℕ) (f : ℕ → Verdict) → first-to (suc m) f ≡ (first-to m f then f (suc m))
-unfolding first-to up-to
-first-more m f = refl
+unfolding first-to
+first-more = up-to-more _then_ accepted
 
 -- a refusal after j that passed decides
 first-stops : (j m : ℕ) (f : ℕ → Verdict) {question : ℕ} {p : Place}
@@ -100,9 +103,8 @@ first-accepted (suc m) f e j p q = go (then-accepted (first-to m f) (f (suc m)) 
 
 -- the same verdicts have the same first refusal
 pub first-same : (m : ℕ) (f g : ℕ → Verdict) → ((j : ℕ) → j < m → f (suc j) ≡ g (suc j)) → first-to m f ≡ first-to m g
-first-same zero f g h = first-none f ∙ sym (first-none g)
-first-same (suc m) f g h =
-    first-more m f ∙ ap₂ _then_ (first-same m f g (λ j l. h j (omega arith))) (h m (omega arith)) ∙ sym (first-more m g)
+unfolding first-to
+first-same = up-to-same _then_ accepted
 
 -- ---- The cells of m rows, of m, m − 1, … cells, by a test
 

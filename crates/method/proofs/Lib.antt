@@ -1,7 +1,9 @@
 -- Laws of the definitions and proofs of the statements in specs/. From below: tests and verdicts, lists, sums, the projection, the claim.
 pub mod Examples
 pub mod Tests
+pub mod Counting
 pub mod FirstRefusal
+pub mod Numbers
 pub mod QuestionFacts
 pub mod Positions
 pub mod Lists

@@ -47,7 +47,7 @@ module _ (f : ℕ → List ℤ) (start : ℕ → ℕ) (starts : (m : ℕ) → le
 
 -- pieces of three
 module _ (f : ℕ → List ℤ) (three : (j : ℕ) → length (f j) ≡ 3) where
-  threes-length : (m : ℕ) → length (list-to m f) ≡ 3 * m
+  pub threes-length : (m : ℕ) → length (list-to m f) ≡ 3 * m
   unfolding up-to
   threes-length zero = refl
   threes-length (suc m) = omega (arith, length-append (list-to m f) (f (suc m)), threes-length m, three (suc m))

@@ -63,7 +63,7 @@ weights-length-is n h =
 
 -- ---- Unseen cells
 
-unseen-before-more : (i : ℕ) → unseen-before (suc i) ≡ unseen-before i + (i - 1)
+pub unseen-before-more : (i : ℕ) → unseen-before (suc i) ≡ unseen-before i + (i - 1)
 unfolding unseen-before
 unseen-before-more i = refl
 
@@ -72,7 +72,7 @@ unfolding unseen-before
 twice-unseen-before zero = refl
 twice-unseen-before (suc i) = omega (arith, twice-unseen-before i, suc-mul i (suc i), mul-suc i i)
 
-unseen-before-mono : (i m : ℕ) → i ≤ m → unseen-before i ≤ unseen-before m
+pub unseen-before-mono : (i m : ℕ) → i ≤ m → unseen-before i ≤ unseen-before m
 unseen-before-mono i zero h = let e : i ≡ 0 = omega arith in le-of-eq (ap unseen-before e)
 unseen-before-mono i (suc m) h = go (λ l. unseen-before-mono i m l) (decLe i m)
   where

@@ -4,18 +4,18 @@ use mathlib.Core.Bool.{Bool, true, not, _&&_, _||_}
 use Prim.Native.Nat.{ℕ, suc, _+_, _-_, _≤_, _<_}
 use native.Mathlib.Omega.{arith}
 use lib.Dec.{leb, eqb, leb→le}
-use lib.IntN.{ℤ, pos, negsuc, negℤ, _-ℤ_, natAbs}
+use lib.IntN.{ℤ, pos, negsuc, negℤ, _+ℤ_, _-ℤ_, natAbs}
 use lib.ListN.{length}
-use lib.Signed.{leZ, _≤ℤ_, _<ℤ_, leZ-yes, ltZ-yes}
+use lib.Signed.{leZ, ltZ, _≤ℤ_, _<ℤ_, leZ-yes, ltZ-yes}
 use Rattle.integers.specs.Fraction.{size}
-use Rattle.integers.proofs.RingSolver.{con, _:-_}
+use Rattle.integers.proofs.RingSolver.{con, _:+_, _:-_}
 use Rattle.integers.proofs.LinearFacts.{integers, parts}
 use Rattle.integers.proofs.Order.{natAbs-≤}
 use Rattle.method.specs.Limits.{fewest-years, most-years, greatest-weight, greatest-amount, greatest-outstanding, greatest-figure}
 use Rattle.method.specs.Triangle.{Triangle, n, Y, S, T, w, amounts-length, weights-length, openings-length, future-length, reserves-length}
 use Rattle.method.specs.Outstandings.{R, sums}
 use Rattle.method.specs.ProjectedYear.{Movement, movement, year-before}
-use Rattle.method.specs.Questions.{accepted, at, nowhere, ask, each-cell, from-to, is-zero, years-in-range, cut-in-range, input-lengths-right, lengths-right, weight-in-range, amount-right, known, outstanding-in-range, unweighted, weight-allowed, exposure-positive, figures-in-range, question-1, question-2, question-3, question-4, question-5, question-6, question-7, question-8, question-9-of-year, question-9, list-questions, input-questions, observed-questions, questions}
+use Rattle.method.specs.Questions.{accepted, at, nowhere, ask, each-cell, from-to, is-zero, years-in-range, cut-in-range, input-lengths-right, lengths-right, weight-in-range, amount-right, known, outstanding-in-range, unweighted, weight-allowed, exposure-positive, figures-in-range, question-1, question-2, question-3, question-4, question-5, question-6, question-7, question-8, question-9-of-year, question-9, list-questions, input-questions, observed-questions, questions, cell-unseen}
 use Rattle.method.specs.Claim.{Projected}
 use Rattle.method.proofs.Tests.{is-true, and-true, unless-true, from-to-true, is-zero-true, eqb-true, leb-true}
 use Rattle.method.proofs.FirstRefusal.{ask-accepted, then-accepted, first-accepted, each-cell-passed}
@@ -246,3 +246,34 @@ accepted-triangle t right lengths e =
       exposure = exposures-positive t q₈;
       figures = figures-allowed t q₉;
     }
+
+-- ---- Question 10 of a cell
+
+pub record UnseenCell (n : ℕ) (i k : ℤ) : Type 0 where
+  pub accident-year-counted : i ≡ pos (natAbs i)
+  pub development-year-counted : k ≡ pos (natAbs k)
+  pub first : 2 ≤ natAbs i
+  pub last : natAbs i ≤ n
+  pub unseen : n + 1 < natAbs i + natAbs k
+  pub last-year : natAbs k ≤ n
+
+pub unseen-cell : (years i k : ℤ) → YearsInRange years → cell-unseen years i k ≡ true → UnseenCell (natAbs years) i k
+unfolding cell-unseen
+unseen-cell years i k y e =
+    let a = and-true (from-to (pos 2) years i && leZ k years) (ltZ (years +ℤ pos 1) (i +ℤ k)) e in
+    let b = and-true (from-to (pos 2) years i) (leZ k years) (a .0) in
+    let c = from-to-true (pos 2) years i (b .0) in
+    go years i k (y .counted) (c .0) (c .1) (leZ-yes (is-true (b .1))) (ltZ-yes (is-true (a .1)))
+  where
+    go : (years i k : ℤ) → years ≡ pos (natAbs years) → pos 2 ≤ℤ i → i ≤ℤ years → k ≤ℤ years → (years +ℤ pos 1) <ℤ (i +ℤ k) → UnseenCell (natAbs years) i k
+    go (pos m) (pos a) (pos b) y p q r s = record {
+      accident-year-counted = refl;
+      development-year-counted = refl;
+      first = omega (arith, integers);
+      last = omega (arith, integers);
+      unseen = omega (arith, integers);
+      last-year = omega (arith, integers);
+    }
+    go (pos m) (pos a) (negsuc b) y p q r s = absurd (omega (arith, integers, parts (con (pos a) :+ con (negsuc b))))
+    go (pos m) (negsuc a) k y p q r s = absurd (p .le)
+    go (negsuc m) i k y p q r s = absurd (omega (arith, integers))

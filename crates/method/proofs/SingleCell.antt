@@ -4,42 +4,25 @@ use mathlib.Core.Bool.{Bool, true, false, _&&_}
 use Prim.Native.Nat.{ℕ, _-_, _<_}
 use native.Mathlib.Omega.{arith}
 use lib.Dec.{eqb-refl}
-use lib.IntN.{ℤ, pos, negsuc, _+ℤ_, natAbs}
+use lib.IntN.{ℤ, pos, natAbs}
 use lib.ListN.{getD}
-use lib.Signed.{leZ, ltZ, _≤ℤ_, _<ℤ_, leZ-yes, ltZ-yes}
-use Rattle.integers.proofs.RingSolver.{con, _:+_}
-use Rattle.integers.proofs.LinearFacts.{integers, parts}
 use Rattle.method.specs.Triangle.{Triangle, n, future-length, reserves-length}
 use Rattle.method.specs.ProjectedYear.{figures, movement}
-use Rattle.method.specs.Questions.{Verdict, accepted, refused, nowhere, ask, from-to, cell-unseen, question-10, questions, input-lengths-right, lengths-right}
+use Rattle.method.specs.Questions.{Verdict, accepted, refused, nowhere, ask, cell-unseen, question-10, questions, input-lengths-right, lengths-right}
 use Rattle.method.specs.Answers.{Answer, CellAnswer, answer, cell-verdict, cell-figures, single-cell}
 use Rattle.method.specs.Claim.{Projected, cell-figure, SameAsFuture, filling-call, Single-cell-of-every-triangle}
-use Rattle.method.proofs.Tests.{is-true, true-is, and-true, from-to-true}
+use Rattle.method.proofs.Tests.{true-is}
 use Rattle.method.proofs.FirstRefusal.{ask-yes, ask-accepted, then-goes-on, then-accepted}
-use Rattle.method.proofs.QuestionFacts.{YearsInRange, Accepted, accepted-triangle, input-lengths-right-true}
+use Rattle.method.proofs.QuestionFacts.{YearsInRange, Accepted, accepted-triangle, input-lengths-right-true, unseen-cell}
 use Rattle.method.proofs.Lists.{future-holds}
 use Rattle.method.proofs.WholeAnswers.{filled-verdict, questions-accepted, accepted-answer}
 
 -- ---- An unseen cell
 
 unseen-is-projected : (years i k : ℤ) → YearsInRange years → cell-unseen years i k ≡ true → Projected (natAbs years) (natAbs i) (natAbs k - 1)
-unfolding cell-unseen
 unseen-is-projected years i k y e =
-    let a = and-true (from-to (pos 2) years i && leZ k years) (ltZ (years +ℤ pos 1) (i +ℤ k)) e in
-    let b = and-true (from-to (pos 2) years i) (leZ k years) (a .0) in
-    let c = from-to-true (pos 2) years i (b .0) in
-    go years i k (y .counted) (c .0) (c .1) (leZ-yes (is-true (b .1))) (ltZ-yes (is-true (a .1)))
-  where
-    go : (years i k : ℤ) → years ≡ pos (natAbs years) → pos 2 ≤ℤ i → i ≤ℤ years → k ≤ℤ years → (years +ℤ pos 1) <ℤ (i +ℤ k)
-        → Projected (natAbs years) (natAbs i) (natAbs k - 1)
-    go (pos m) (pos a) (pos b) y p q r s = record {
-      row = omega (arith, integers);
-      after = omega (arith, integers);
-      year = omega (arith, integers);
-    }
-    go (pos m) (pos a) (negsuc b) y p q r s = absurd (omega (arith, integers, parts (con (pos a) :+ con (negsuc b))))
-    go (pos m) (negsuc a) k y p q r s = absurd (p .le)
-    go (negsuc m) i k y p q r s = absurd (omega (arith, integers))
+    let u = unseen-cell years i k y e in
+    record { row = u .last; after = omega (arith, u .unseen); year = omega (arith, u .unseen, u .last-year, u .last) }
 
 -- ---- The questions of a single cell are those of a call with answer lists of the right lengths
 

@@ -2,3 +2,4 @@
 pub mod LongDivision
 pub mod Signs
 pub mod Halves
+pub mod Answers

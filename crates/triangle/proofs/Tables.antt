@@ -4,13 +4,14 @@ use Prim.Native.Nat.{ℕ, zero, suc, _+_, _-_, _≤_, _<_}
 use native.Mathlib.Decide.{decLe}
 use native.Mathlib.Omega.{arith}
 use lib.IntN.{pos}
-use lib.ListN.{length, getD}
+use lib.ListN.{length, getD, List·getD-eq-default}
 use lib.Seq.{ext-getD}
+use Rattle.method.specs.Limits.{most-accident-years, most-ratios}
 use Rattle.method.specs.Triangle.{Triangle, n}
 use Rattle.method.specs.Questions.{accepted}
 use Rattle.method.proofs.Tests.{leb-true, leb-false}
 use Rattle.triangle.specs.declared.ratios.Development.{Development}
-use Rattle.triangle.specs.Ratios.{no-sums, DevelopmentOf}
+use Rattle.triangle.specs.Ratios.{sums-of, no-sums, DevelopmentOf}
 use Rattle.triangle.specs.Reading.{values, as-sums, ratios-at, outstanding-at, development}
 
 values-length : {A : Type 0} (m : ℕ) (f : ℕ → A) → length (values m f) ≡ m
@@ -51,3 +52,39 @@ module _ (t : Triangle) (d : Development) (r : DevelopmentOf t (d .ratios) (d .o
     where
       same : (a : _) (b : _) {x : _} {y : _} → a ≡ x → b ≡ y → _≡_ {A = Development} (record { ratios = a; outstandings = b }) (record { ratios = x; outstandings = y })
       same a b e f = cc
+
+-- ---- The other way round: the definition's lists hold what the triangle shows
+
+-- also beyond their end, where the values are those of no place
+table-holds : {A : Type 0} (m j : ℕ) (f : ℕ → A) (d : A) → (m ≤ j → f j ≡ d) → getD (values m f) j d ≡ f j
+table-holds m j f d beyond = go (decLe (suc j) m)
+  where
+    go : Dec (j < m) → getD (values m f) j d ≡ f j
+    go (yes h) = values-hold m j f d h
+    go (no h) = List·getD-eq-default (values m f) d (omega (arith, values-length m f)) ∙ sym (beyond (omega arith))
+
+module _ (t : Triangle) (most : n t ≤ most-accident-years) where
+  ratio-beyond : (j : ℕ) → n t ≤ j + 1 → ratios-at t j ≡ no-sums
+  unfolding ratios-at
+  ratio-beyond j h = rw (leb-false (j + 2) (n t) (omega arith), ratios-at)
+
+  outstanding-beyond : (j : ℕ) → n t ≤ j → outstanding-at t j ≡ pos 0
+  unfolding outstanding-at
+  outstanding-beyond j h = rw (leb-false (j + 1) (n t) (omega arith), outstanding-at)
+
+  ratio-holds : (j : ℕ) → getD (values most-ratios (ratios-at t)) j no-sums ≡ ratios-at t j
+  ratio-holds j = table-holds most-ratios j (ratios-at t) no-sums (λ h. ratio-beyond j (omega arith))
+
+  outstanding-holds : (j : ℕ) → getD (values most-accident-years (outstanding-at t)) j (pos 0) ≡ outstanding-at t j
+  outstanding-holds j = table-holds most-accident-years j (outstanding-at t) (pos 0) (λ h. outstanding-beyond j (omega arith))
+
+  pub development-holds : DevelopmentOf t (development t accepted .ratios) (development t accepted .outstandings)
+  unfolding development ratios-at outstanding-at
+  development-holds = record {
+    year = λ k h. ap sums-of (ratio-holds k ∙ rw (leb-true (k + 2) (n t) (omega arith), ratios-at));
+    year-beyond = λ k h. ratio-holds k ∙ ratio-beyond k h;
+    outstanding = λ r h. outstanding-holds r ∙ rw (leb-true (r + 1) (n t) (omega arith), outstanding-at);
+    outstanding-beyond = λ r h. outstanding-holds r ∙ outstanding-beyond r h;
+    ratios-long = values-length most-ratios (ratios-at t);
+    outstandings-long = values-length most-accident-years (outstanding-at t);
+  }

@@ -1,0 +1,68 @@
+-- The call that fills both lists: accepted and refused, its whole answer is the definition's, and demand 3 holds of what it leaves.
+use mathlib.Core.Path.{_≡_, refl, sym, ap, _∙_, subst}
+use mathlib.Core.List.{List}
+use Prim.Native.Nat.{ℕ}
+use lib.IntN.{ℤ, pos}
+use lib.ListN.{length, replicate}
+use Rattle.method.specs.Triangle.{Triangle, n}
+use Rattle.method.specs.Questions.{Place, Verdict, accepted, refused, observed-questions, questions, lengths-right}
+use Rattle.method.specs.Answers.{Answer, answer}
+use Rattle.method.specs.Claim.{Demand-3}
+use Rattle.method.proofs.FirstRefusal.{not-both, stopped}
+use Rattle.method.proofs.WholeAnswers.{filled-verdict, accepted-answer, refused-answer}
+use Rattle.method.proofs.ProofOfDemand3.{demand-3}
+use Rattle.questions.specs.declared.inputs.AnswerLists.the-variants.{OfLengths}
+use Rattle.verdicts.specs.Verdicts.{verdict-of}
+use Rattle.triangle.specs.declared.reading.Reading.{Reading}
+use Rattle.triangle.specs.Reading.{ReadingOf}
+use Rattle.calls.specs.Rows.{RowsProjected}
+use Rattle.calls.specs.Answers.{answered, Filled}
+use Rattle.calls.proofs.OfTriangle.{question-9-is, future-is, reserves-is}
+use Rattle.calls.proofs.ReadTriangles.{was-read, with-question-9}
+
+module _ {t : Triangle} {before-f before-r : List ℤ} where
+  module _ {r : Reading} (e : ReadingOf t (OfLengths (length before-f) (length before-r)) r) where
+    pub refused-before : {question : ℕ} {p : Place} → verdict-of (r .verdict) ≡ refused question p
+        → Filled t before-f before-r (verdict-of (r .verdict)) before-f before-r
+    unfolding questions
+    refused-before d = record {
+      verdict-is = stopped _ (e .verdict-is) d;
+      future-is = λ a. absurd (not-both a d);
+      reserves-are = λ a. absurd (not-both a d);
+      future-length = refl;
+      reserves-length = refl;
+    }
+
+    pub projected : {v : Verdict} {future reserves : List ℤ} → verdict-of (r .verdict) ≡ accepted
+        → RowsProjected (n t) (r .development .ratios) (r .development .outstandings) v future reserves
+        → (length future ≡ length before-f) × (length reserves ≡ length before-r)
+        → Filled t before-f before-r v future reserves
+    projected a p l = record {
+      verdict-is = with-question-9 e a (p .verdict-is ∙ question-9-is (was-read e a));
+      future-is = λ b. p .future-is b ∙ future-is (was-read e a);
+      reserves-are = λ b. p .reserves-are b ∙ reserves-is (was-read e a);
+      future-length = l .0;
+      reserves-length = l .1;
+    }
+
+  -- ---- The whole answer
+
+  module _ {v : Verdict} {future reserves : List ℤ} (f : Filled t before-f before-r v future reserves) where
+    pub refused-whole : {question : ℕ} {p : Place} → v ≡ refused question p
+        → answered v (replicate (length before-f) (pos 0)) (replicate (length before-r) (pos 0)) ≡ answer t (length before-f) (length before-r)
+    refused-whole {question} {p} d =
+        ap (λ (x : Verdict). answered x (replicate (length before-f) (pos 0)) (replicate (length before-r) (pos 0))) d
+        ∙ sym (refused-answer t (length before-f) (length before-r) question p (sym (f .verdict-is) ∙ d))
+
+    said : v ≡ accepted → answer t (length before-f) (length before-r) .verdict ≡ accepted
+    unfolding answer
+    said a = filled-verdict t _ _ (questions t (lengths-right t (length before-f) (length before-r))) ∙ sym (f .verdict-is) ∙ a
+
+    pub accepted-whole : v ≡ accepted → answered v future reserves ≡ answer t (length before-f) (length before-r)
+    accepted-whole a = same a (f .future-is a) (f .reserves-are a) ∙ sym (accepted-answer t (length before-f) (length before-r) (said a))
+      where
+        same : {v w : Verdict} {a b c d : List ℤ} → v ≡ w → a ≡ c → b ≡ d → answered v a b ≡ answered w c d
+        same p q r = cc
+
+    pub demand-3-holds : v ≡ accepted → Demand-3 t future reserves
+    demand-3-holds a = subst (λ (x : Answer). Demand-3 t (x .future) (x .reserves)) (sym (accepted-whole a)) (demand-3 t (length before-f) (length before-r) (said a))

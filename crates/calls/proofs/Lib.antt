@@ -1,0 +1,9 @@
+-- Laws that serve several functions, from below.
+pub mod RowLoop
+pub mod RowsLoop
+pub mod OfTriangle
+pub mod ReadTriangles
+pub mod BothLists
+pub mod CellYears
+pub mod UnseenCells
+pub mod WholeCells

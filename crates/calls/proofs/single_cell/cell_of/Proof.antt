@@ -1,0 +1,67 @@
+-- The row's last observed outstanding, and the movement that it leads to.
+use borrow.Author.Needs.{needs}
+use mathlib.Core.Path.{_≡_, ap, _∙_}
+use Prim.Native.Nat.{_-_}
+use native.Mathlib.Omega.{arith}
+use lib.IntN.{pos}
+use lib.ListN.{getD}
+use Rattle.integers.proofs.MachineArithmetic.{Held, held}
+use Rattle.method.specs.Questions.{accepted}
+use Rattle.method.specs.Answers.{CellAnswer}
+use Rattle.projection.specs.declared.year.Movement.{Movement}
+use Rattle.calls.specs.Rows.{observed-of}
+use Rattle.calls.proofs.RowLoop.{units-small}
+use Rattle.calls.proofs.WholeCells.{row-of-cell, in-units, later-year, cell-input}
+use Rattle.calls.proofs.single_cell.cell_of.Statement.{statement}
+use Rattle.calls.proofs.single_cell.cell_of.Tie as tie
+
+observed-read : (c : tie.After-from-units-arg) → let a = c .before .before .before .args in Held (getD (a .development .outstandings) (a .i - 1) (pos 0))
+observed-read c = let a = c .before .before .before .args in held (getD (a .development .outstandings) (a .i - 1) (pos 0)) (c .from-units-arg .given)
+
+in-millionths : (c : tie.After-from-units) → let a = c .before .before .before .before .args in
+    c .from-units .result .0 ≡ observed-of (a .n) (a .development .ratios) (a .development .outstandings) (a .i)
+in-millionths c = (simp (observed-read (c .before)) at (c .from-units .ensures)) ∙ in-units (c .before .before .before .before .pre)
+
+sub-from-units : tie.Need-sub-from-units
+sub-from-units c = omega (arith, c .before .before .pre .first)
+
+mul-from-units : tie.Need-mul-from-units
+mul-from-units c = search needs
+
+array-copy-out-from-units : tie.Need-array-copy-out-from-units
+array-copy-out-from-units c = omega (arith, c .before .before .pre .first, c .before .before .pre .last, c .before .before .pre .readable .most)
+
+from-units-requires : tie.Need-from-units-requires
+from-units-requires c κs = simp (observed-read c) (omega (arith, units-small (row-of-cell (c .before .before .before .pre))))
+
+add-movement : tie.Need-add-movement
+add-movement c = let m = c .before .before .before .before .pre .readable .most in search needs
+
+sub-movement : tie.Need-sub-movement
+sub-movement c = omega (arith, c .before .before .before .before .pre .last)
+
+movement-requires : tie.Need-movement-requires
+movement-requires c κs =
+    let a = c .before .before .before .before .pre in
+    (rw (in-millionths c) (cell-input a), later-year a)
+
+returns : tie.Need-returns
+returns c =
+    let m = c .before .before .before in
+    ap cell (simp (in-millionths (m .before)) at (m .movement .ensures))
+  where
+    cell : Movement → CellAnswer
+    cell m = record { verdict = accepted; payment = m .payment .0; adjustment = m .adjustment .0; outstanding = m .outstanding .0 }
+
+pub cell-of-spec : {M : Type 1} → statement M
+cell-of-spec =
+    tie.close
+    (tie.spec
+    sub-from-units
+    mul-from-units
+    array-copy-out-from-units
+    from-units-requires
+    add-movement
+    sub-movement
+    movement-requires
+    returns)

@@ -1,0 +1,213 @@
+-- Questions 1 to 8, question 9, question 10; a refusal has zeros beside it.
+use borrow.Author.Needs.{needs}
+use mathlib.Core.Path.{_≡_, sym, ap, _∙_}
+use native.Mathlib.Omega.{arith}
+use lib.IntN.{natAbs}
+use mir.Facts.{toZ-ofZ}
+use Rattle.method.specs.Triangle.{Triangle}
+use Rattle.method.specs.Questions.{accepted, questions, question-10, input-lengths-right, cell-unseen}
+use Rattle.method.specs.Answers.{cell-verdict}
+use Rattle.method.proofs.FirstRefusal.{ask-accepted, stopped, went-on}
+use Rattle.method.proofs.QuestionFacts.{YearsInRange, UnseenCell, unseen-cell}
+use Rattle.verdicts.specs.Verdicts.{verdict-of}
+use Rattle.verdicts.proofs.Counts.{count-fits}
+use Rattle.questions.specs.declared.inputs.AnswerLists.the-variants.{NotLent}
+use Rattle.questions.specs.Lent.{lent}
+use Rattle.triangle.specs.Reading.{ReadingOf}
+use Rattle.calls.specs.Cells.{CellAccepted}
+use Rattle.calls.proofs.OfTriangle.{question-9-is}
+use Rattle.calls.proofs.ReadTriangles.{observed, was-read, can-be-projected, with-question-9, question-1-passed}
+use Rattle.calls.proofs.WholeCells.{cell-accepted, movement-in-triangle, refused-whole, accepted-whole}
+use Rattle.calls.proofs.single_cell.single_cell.Statement.{statement}
+use Rattle.calls.proofs.single_cell.single_cell.Tie as tie
+
+-- the triangle that is lent
+abbrev triangle : tie.Start → Triangle
+triangle s = lent (s .args .years) (s .args .cut) (s .args .payments .now) (s .args .adjustments .now) (s .args .weights .now) (s .args .openings .now)
+
+reading : (c : tie.After-read) → ReadingOf (triangle (c .before)) NotLent (c .read .result)
+reading c = simp (toZ-ofZ (c .before .fits .years), toZ-ofZ (c .before .fits .cut)) at (c .read .ensures)
+
+-- where questions 1 to 8 have accepted
+readable : (c : tie.After-enum-told) → verdict-of (c .before .before .read .result .verdict) ≡ accepted
+readable c = ap verdict-of (c .enum-told .given .1)
+
+-- the verdict of questions 1 to 9
+nine : (c : tie.After-question-9) → let s = c .before .before .before .before .before in
+    verdict-of (c .question-9 .result) ≡ questions (triangle s) (input-lengths-right (triangle s))
+nine c =
+    let told = c .before .before in
+    let r = told .before .before in
+    let e = simp (toZ-ofZ (r .before .fits .years)) at (c .question-9 .ensures) in
+    with-question-9 (reading r) (readable told) (e ∙ question-9-is (was-read (reading r) (readable told)))
+
+-- question 10
+abbrev began : tie.After-asked → tie.Start
+began c = c .before .before .before .before .before .before .before .before .before
+
+abbrev read-of : tie.After-asked → tie.After-read
+read-of c = c .before .before .before .before .before .before .before .before
+
+readable-of : (c : tie.After-asked) → verdict-of (read-of c .read .result .verdict) ≡ accepted
+readable-of c = readable (c .before .before .before .before .before .before)
+
+-- questions 1 to 9 have accepted
+projectable : (c : tie.After-asked) → verdict-of (c .before .before .before .before .question-9 .result) ≡ accepted
+projectable c = ap verdict-of (c .before .before .enum-told3 .given .1)
+
+tested : (c : tie.After-asked) → let s = began c in
+    verdict-of (c .asked .result) ≡ question-10 (cell-unseen (s .args .years) (s .args .accident-year) (s .args .development-year))
+unfolding question-10
+tested c =
+    let s = began c in
+    let e = simp (toZ-ofZ (s .fits .years), toZ-ofZ (s .fits .accident-year), toZ-ofZ (s .fits .development-year)) at (c .before .cell-unseen .ensures) in
+    c .asked .ensures ∙ ap question-10 e
+
+ten : (c : tie.After-asked) → let s = began c in
+    verdict-of (c .asked .result) ≡ cell-verdict (triangle s) (s .args .accident-year) (s .args .development-year)
+unfolding cell-verdict
+ten c = went-on (sym (nine (c .before .before .before .before)) ∙ projectable c) (tested c)
+
+years-right : (c : tie.After-asked) → YearsInRange (began c .args .years)
+years-right c = observed (reading (read-of c)) (readable-of c) .years
+
+-- the cell, where question 10 has accepted it
+unseen : (c : tie.After-enum-told5) → let s = began (c .before .before) in
+    UnseenCell (natAbs (s .args .years)) (s .args .accident-year) (s .args .development-year)
+unfolding question-10
+unseen c =
+    let a = c .before .before in
+    unseen-cell _ _ _ (years-right a) (ask-accepted _ 10 _ (sym (tested a) ∙ ap verdict-of (c .enum-told5 .given .1)))
+
+cell-right : (c : tie.After-enum-told5) → let s = began (c .before .before) in let d = read-of (c .before .before) .read .result .development in
+    CellAccepted (natAbs (s .args .years)) (d .ratios) (d .outstandings) (natAbs (s .args .accident-year)) (natAbs (s .args .development-year))
+cell-right c =
+    let a = c .before .before in
+    let q = a .before .before .before .before in
+    cell-accepted (can-be-projected (reading (read-of a)) (readable-of a)) (unseen c)
+    (sym (simp (toZ-ofZ (began a .fits .years)) at (q .question-9 .ensures)) ∙ projectable a)
+
+read-requires : tie.Need-read-requires
+read-requires c κs = search needs
+
+enum-told : tie.Need-enum-told
+enum-told c = search needs
+
+enum-told-2 : tie.Need-enum-told-2
+enum-told-2 c = search needs
+
+refused-requires : tie.Need-refused-requires
+refused-requires c κs = search needs
+
+returns : tie.Need-returns
+unfolding cell-verdict questions
+returns c =
+    let r = c .before .before .before in
+    let s = r .before in
+    let d = ap verdict-of (c .before .enum-told2 .given .1) in
+    c .refused .ensures ∙ refused-whole (triangle s) (s .args .accident-year) (s .args .development-year) (stopped _ (stopped _ (reading r .verdict-is) d) d) d
+
+cast-n : tie.Need-cast-n
+cast-n c =
+    let s = c .before .before .before .before in
+    let o = observed (reading (c .before .before .before)) (readable (c .before)) in
+    simp (toZ-ofZ (s .fits .years)) (count-fits (s .args .years) (o .years .counted) (o .years .most))
+
+question-9-requires : tie.Need-question-9-requires
+question-9-requires c κs =
+    let r = c .before .before .before in
+    simp (toZ-ofZ (r .before .fits .years)) (can-be-projected (reading r) (readable (c .before)))
+
+enum-told-3 : tie.Need-enum-told-3
+enum-told-3 c = search needs
+
+enum-told-4 : tie.Need-enum-told-4
+enum-told-4 c = search needs
+
+refused-requires-2 : tie.Need-refused-requires-2
+refused-requires-2 c κs = search needs
+
+returns-2 : tie.Need-returns-2
+unfolding cell-verdict
+returns-2 c =
+    let q = c .before .before .before in
+    let s = q .before .before .before .before .before in
+    let d = ap verdict-of (c .before .enum-told4 .given .1) in
+    c .refused2 .ensures ∙ refused-whole (triangle s) (s .args .accident-year) (s .args .development-year) (stopped _ (nine q) d) d
+
+cell-unseen-requires : tie.Need-cell-unseen-requires
+cell-unseen-requires c κs =
+    let told = c .before .before .before .before in
+    let r = told .before .before in
+    simp (toZ-ofZ (r .before .fits .years)) (question-1-passed (reading r) (readable told))
+
+asked-requires : tie.Need-asked-requires
+asked-requires c κs = search needs
+
+enum-told-5 : tie.Need-enum-told-5
+enum-told-5 c = search needs
+
+enum-told-6 : tie.Need-enum-told-6
+enum-told-6 c = search needs
+
+refused-requires-3 : tie.Need-refused-requires-3
+refused-requires-3 c κs = search needs
+
+returns-3 : tie.Need-returns-3
+returns-3 c =
+    let a = c .before .before .before in
+    let s = began a in
+    c .refused3 .ensures ∙ refused-whole (triangle s) (s .args .accident-year) (s .args .development-year) (ten a) (ap verdict-of (c .before .enum-told6 .given .1))
+
+cast-cell-of : tie.Need-cast-cell-of
+cast-cell-of c =
+    let s = began (c .before .before) in
+    let u = unseen c in
+    simp (toZ-ofZ (s .fits .accident-year)) (count-fits (s .args .accident-year) (u .accident-year-counted) (omega (arith, u .last, years-right (c .before .before) .most)))
+
+cast-cell-of-2 : tie.Need-cast-cell-of-2
+cast-cell-of-2 c =
+    let s = began (c .before .before) in
+    let u = unseen c in
+    simp (toZ-ofZ (s .fits .development-year)) (count-fits (s .args .development-year) (u .development-year-counted) (omega (arith, u .last-year, years-right (c .before .before) .most)))
+
+cell-of-requires : tie.Need-cell-of-requires
+cell-of-requires c κs =
+    let s = began (c .before .before) in
+    simp (toZ-ofZ (s .fits .years), toZ-ofZ (s .fits .accident-year), toZ-ofZ (s .fits .development-year)) (cell-right c)
+
+returns-4 : tie.Need-returns-4
+returns-4 c =
+    let told = c .before in
+    let a = told .before .before in
+    let s = began a in
+    let r = read-of a in
+    (simp (toZ-ofZ (s .fits .years), toZ-ofZ (s .fits .accident-year), toZ-ofZ (s .fits .development-year)) at (c .cell-of .ensures))
+    ∙ accepted-whole (triangle s) (s .args .accident-year) (s .args .development-year) (ten a) (ap verdict-of (told .enum-told5 .given .1))
+    (movement-in-triangle (was-read (reading r) (readable-of a)) _ _ (cell-right told))
+
+pub single-cell-spec : {M : Type 1} → statement M
+single-cell-spec =
+    tie.close
+    (tie.spec
+    read-requires
+    enum-told
+    enum-told-2
+    refused-requires
+    returns
+    cast-n
+    question-9-requires
+    enum-told-3
+    enum-told-4
+    refused-requires-2
+    returns-2
+    cell-unseen-requires
+    asked-requires
+    enum-told-5
+    enum-told-6
+    refused-requires-3
+    returns-3
+    cast-cell-of
+    cast-cell-of-2
+    cell-of-requires
+    returns-4)

@@ -1,0 +1,4 @@
+-- What the contracts of this crate say, in the words of the crate `method`.
+pub mod Rows
+pub mod Cells
+pub mod Answers

@@ -1,0 +1,113 @@
+-- The projection as the code makes it, row by row from the sums and outstandings that were read: what the inner functions ask and answer.
+-- That it is document 01's is the law `as-in-the-triangle` in proofs/OfTriangle.antt.
+use mathlib.Core.Path.{_≡_}
+use mathlib.Core.List.{List, [], _∷_, _++_}
+use Prim.Native.Nat.{ℕ, zero, suc, _+_, _*_, _-_, _≤_, _<_}
+use lib.IntN.{ℤ, pos, _+ℤ_, _*ℤ_, natAbs}
+use lib.ListN.{length, getD, take}
+use lib.Signed.{_≤ℤ_}
+use Rattle.method.specs.Limits.{one-unit, greatest-outstanding, most-accident-years}
+use Rattle.method.specs.Counting.{sum-to, list-to}
+use Rattle.method.specs.Triangle.{entry}
+use Rattle.method.specs.Outstandings as meaning
+use Rattle.method.specs.ProjectedYear.{Movement, next-year, figures}
+use Rattle.method.specs.Questions.{Verdict, accepted, at, ask, first-to, figures-in-range}
+use Rattle.share.specs.Share.{greatest-size}
+use Rattle.verdicts.specs.Verdicts.{verdict-of}
+use Rattle.triangle.specs.declared.ratios.Sums.{Sums}
+use Rattle.triangle.specs.Ratios.{sums-of, no-sums}
+use Rattle.projection.specs.Year.{SumsRight}
+use Rattle.calls.specs.declared.rows.ProjectedRow.{ProjectedRow}
+
+-- the sums at a place of the ratios; those of development year k stand at k − 1
+abbrev pub sums-at : List Sums → ℕ → meaning.Sums
+sums-at ratios j = sums-of (getD ratios j no-sums)
+
+-- ---- One row, from the place of the sums of its last observed year, with its outstanding of that year, in millionths
+
+module _ (ratios : List Sums) (first : ℕ) (observed : ℤ) where
+  -- the outstanding after j projected years
+  unfoldable pub outstanding-after : ℕ → ℤ
+  outstanding-after zero = observed
+  outstanding-after (suc j) = next-year (outstanding-after j) (sums-at ratios (first + j)) .outstanding
+
+  -- the j-th projected year, counted from 1
+  unfoldable pub projected-year : ℕ → Movement
+  projected-year j = next-year (outstanding-after (j - 1)) (sums-at ratios (first + (j - 1)))
+
+-- accident year i, which has i − 1 projected years
+module _ (n : ℕ) (ratios : List Sums) (i : ℕ) (observed : ℤ) where
+  unfoldable pub row-question : ℕ → Verdict
+  row-question j = ask (figures-in-range (projected-year ratios (n - i) observed j)) 9 (at i (suc (n - i + j)))
+
+  unfoldable pub row-verdict : Verdict
+  row-verdict = first-to (i - 1) row-question
+
+  -- of the first m projected years
+  unfoldable pub row-figures : ℕ → List ℤ
+  row-figures m = list-to m (λ j. figures (projected-year ratios (n - i) observed j))
+
+  unfoldable pub row-payments : ℕ → ℤ
+  row-payments m = sum-to m (λ j. projected-year ratios (n - i) observed j .payment)
+
+  unfoldable pub row-adjustments : ℕ → ℤ
+  row-adjustments m = sum-to m (λ j. projected-year ratios (n - i) observed j .adjustment)
+
+  -- the paid reserve, the incurred reserve and the closing outstanding
+  unfoldable pub row-reserves : List ℤ
+  row-reserves =
+      row-payments (i - 1) ∷ (observed +ℤ row-adjustments (i - 1)) ∷ outstanding-after ratios (n - i) observed (i - 1) ∷ []
+
+-- ---- All rows, from the last observed outstandings, in whole units
+
+module _ (n : ℕ) (ratios : List Sums) (outstandings : List ℤ) where
+  abbrev pub observed-of : ℕ → ℤ
+  observed-of i = entry outstandings i *ℤ one-unit
+
+  unfoldable pub verdict-of-row : ℕ → Verdict
+  verdict-of-row i = row-verdict n ratios i (observed-of i)
+
+  unfoldable pub figures-of-row : ℕ → List ℤ
+  figures-of-row i = row-figures n ratios i (observed-of i) (i - 1)
+
+  unfoldable pub reserves-of-row : ℕ → List ℤ
+  reserves-of-row i = row-reserves n ratios i (observed-of i)
+
+-- ---- What the code is asked
+
+-- an accident year with its last observed outstanding, in whole units, and ratios as questions 1 to 8 leave them
+pub record RowInput (n : ℕ) (ratios : List Sums) (i : ℕ) (observed : ℤ) : Type 0 where
+  pub first : 1 ≤ i
+  pub last : i ≤ n
+  pub most : n ≤ most-accident-years
+  pub observed-nonneg : pos 0 ≤ℤ observed
+  pub observed-most : observed ≤ℤ greatest-outstanding
+  pub year : (j : ℕ) → j + 1 < n → SumsRight (sums-at ratios j)
+
+-- what questions 1 to 8 leave
+pub record Projectable (n : ℕ) (ratios : List Sums) (outstandings : List ℤ) : Type 0 where
+  pub most : n ≤ most-accident-years
+  pub year : (j : ℕ) → j + 1 < n → SumsRight (sums-at ratios j)
+  pub outstanding : (r : ℕ) → r < n → (pos 0 ≤ℤ getD outstandings r (pos 0)) × (getD outstandings r (pos 0) ≤ℤ greatest-outstanding)
+
+-- a sum of some figures within the limit of question 9, and one more of them
+pub record Addable (sum figure : ℤ) : Type 0 where
+  pub sum-size : natAbs sum ≤ most-accident-years * greatest-size
+  pub figure-size : natAbs figure ≤ greatest-size
+
+-- ---- What it answers
+
+-- a row, projected into the future list from the place `start` on
+pub record RowProjected (n : ℕ) (ratios : List Sums) (i : ℕ) (observed : ℤ) (start : ℕ) (before : List ℤ) (r : ProjectedRow) (after : List ℤ) : Type 0 where
+  pub same-length : length after ≡ length before
+  pub verdict-is : verdict-of (r .verdict) ≡ row-verdict n ratios i observed
+  pub reserves-are : row-verdict n ratios i observed ≡ accepted
+      → (r .paid .0 ∷ r .incurred .0 ∷ r .closing .0 ∷ []) ≡ row-reserves n ratios i observed
+  pub figures-are : row-verdict n ratios i observed ≡ accepted
+      → take (start + 3 * (i - 1)) after ≡ take start before ++ row-figures n ratios i observed (i - 1)
+
+-- all rows, projected into both lists
+pub record RowsProjected (n : ℕ) (ratios : List Sums) (outstandings : List ℤ) (v : Verdict) (future reserves : List ℤ) : Type 0 where
+  pub verdict-is : v ≡ first-to n (verdict-of-row n ratios outstandings)
+  pub future-is : v ≡ accepted → future ≡ list-to n (figures-of-row n ratios outstandings)
+  pub reserves-are : v ≡ accepted → reserves ≡ list-to n (reserves-of-row n ratios outstandings)

@@ -1,0 +1,85 @@
+// The call that fills both answer lists.
+ghost use mathlib.Core.Path.{_≡_};
+ghost use lib.ListN.{length};
+ghost use Rattle.method.specs.Questions.{accepted};
+ghost use Rattle.method.specs.Answers.{answer};
+ghost use Rattle.method.specs.Claim.{Demand-3};
+ghost use Rattle.verdicts.specs.Verdicts.{verdict-of};
+ghost use Rattle.questions.specs.Lent.{lent};
+ghost use Rattle.calls.specs.Answers.{answered, Filled};
+use crate::rows::project;
+use projection::lists::clear;
+use questions::inputs::AnswerLists;
+use triangle::reading::read;
+use verdicts::verdict::Verdict;
+
+// The verdict of questions 1 to 9. Where they accept, the future list and the reserve list are document 01's; else both hold zeros throughout.
+// What is lent may be anything: n, the cut and every number any i64, and the lists of any length.
+pub fn reserve<'a>(
+    years: i64,
+    cut: i64,
+    payments: &'a [i64],
+    adjustments: &'a [i64],
+    weights: &'a [i64],
+    openings: &'a [i64],
+    future: &mut [i64],
+    reserves: &mut [i64],
+) -> Verdict
+    ensures { λ r. ⌜ answered (verdict-of r) (now (future .exit)) (now (reserves .exit))
+        ≡ answer
+        (lent years cut (now (payments .entry)) (now (adjustments .entry)) (now (weights .entry)) (now (openings .entry)))
+        (length (now (future .entry))) (length (now (reserves .entry))) ⌝ }
+    ensures { λ r. ⌜ (verdict-of r ≡ accepted → Demand-3
+        (lent years cut (now (payments .entry)) (now (adjustments .entry)) (now (weights .entry)) (now (openings .entry)))
+        (now (future .exit)) (now (reserves .exit))) ⌝ }
+{
+    let verdict = fill(
+        years,
+        cut,
+        payments,
+        adjustments,
+        weights,
+        openings,
+        future,
+        reserves,
+    );
+    let Verdict::Accepted = verdict else {
+        clear(future);
+        clear(reserves);
+        return verdict;
+    };
+    verdict
+}
+
+// The same, but a refused call leaves in the lists what it had written before the refusal.
+fn fill<'a>(
+    years: i64,
+    cut: i64,
+    payments: &'a [i64],
+    adjustments: &'a [i64],
+    weights: &'a [i64],
+    openings: &'a [i64],
+    future: &mut [i64],
+    reserves: &mut [i64],
+) -> Verdict
+    ensures { λ r. ⌜ Filled
+        (lent years cut (now (payments .entry)) (now (adjustments .entry)) (now (weights .entry)) (now (openings .entry)))
+        (now (future .entry)) (now (reserves .entry)) (verdict-of r) (now (future .exit)) (now (reserves .exit)) ⌝ }
+{
+    let answers = AnswerLists::OfLengths(future.len(), reserves.len());
+    let reading = read(
+        years,
+        cut,
+        payments,
+        adjustments,
+        weights,
+        openings,
+        answers,
+    );
+    let verdict = reading.verdict;
+    let Verdict::Accepted = verdict else {
+        return verdict;
+    };
+    let development = reading.development;
+    project(years as usize, development, future, reserves)
+}

@@ -1,0 +1,116 @@
+// The accident years of a triangle, projected one after another.
+ghost use mathlib.Core.Path.{_≡_};
+ghost use Prim.Native.Nat.{_+_, _*_, _-_, _≤_};
+ghost use lib.IntN.{_+ℤ_, _*ℤ_};
+ghost use lib.ListN.{length};
+ghost use Rattle.method.specs.Limits.{one-unit};
+ghost use Rattle.method.specs.Triangle.{future-length, reserves-length};
+ghost use Rattle.verdicts.specs.Verdicts.{verdict-of};
+ghost use Rattle.calls.specs.Rows.{RowInput, RowProjected, Addable, Projectable, RowsProjected};
+use projection::lists::write_three;
+use projection::year::ProjectedYear;
+use projection::year::next_year;
+use share::millionths::Millionths;
+use triangle::ratios::Development;
+use triangle::ratios::Sums;
+use verdicts::limits::DEVELOPMENT_YEARS;
+use verdicts::verdict::Verdict;
+use verdicts::verdict::refusal_at;
+
+// Projects every accident year: its figures into the future list, its reserves into the reserve list.
+// Stops at the first refusal of question 9, and leaves what it has written.
+pub(crate) fn project(
+    n: usize,
+    development: Development,
+    future: &mut [i64],
+    reserves: &mut [i64],
+) -> Verdict
+    requires { ⌜ Projectable n (development .ratios) (development .outstandings) ⌝ }
+    requires { ⌜ (length (now future) ≡ future-length n) × (length (now reserves) ≡ reserves-length n) ⌝ }
+    ensures { λ r. ⌜ RowsProjected n (development .ratios) (development .outstandings) (verdict-of r) (now (future .exit)) (now (reserves .exit)) ⌝ }
+    ensures { λ _. ⌜ (length (now (future .exit)) ≡ length (now (future .entry))) × (length (now (reserves .exit)) ≡ length (now (reserves .entry))) ⌝ }
+{
+    let ratios = development.ratios;
+    let outstandings = development.outstandings;
+    let mut future_at = 0;
+    let mut r = 0;
+    while r < n {
+        let row = project_row(n, r + 1, ratios, outstandings[r], future, future_at);
+        let verdict = row.verdict;
+        let Verdict::Accepted = verdict else {
+            return verdict;
+        };
+        write_three(reserves, 3 * r, row.paid.0, row.incurred.0, row.closing.0);
+        future_at += 3 * r;
+        r += 1;
+    }
+    Verdict::Accepted
+}
+
+// The verdict of question 9 on an accident year, and its reserves; zeros where it is refused.
+pub(crate) struct ProjectedRow {
+    pub verdict: Verdict,
+    pub paid: Millionths,
+    pub incurred: Millionths,
+    pub closing: Millionths,
+}
+
+// Projects accident year i from its last observed outstanding, in whole units, and writes its figures from a place of the future list on.
+pub(crate) fn project_row(
+    n: usize,
+    i: usize,
+    ratios: [Sums; DEVELOPMENT_YEARS],
+    observed: i64,
+    future: &mut [i64],
+    start: usize,
+) -> ProjectedRow
+    requires { ⌜ RowInput n ratios i observed ⌝ }
+    requires { ⌜ start + 3 * (i - 1) ≤ length (now future) ⌝ }
+    ensures { λ r. ⌜ RowProjected n ratios i (observed *ℤ one-unit) start (now (future .entry)) r (now (future .exit)) ⌝ }
+{
+    let mut outstanding = Millionths::from_units(observed);
+    let mut paid = Millionths(0);
+    let mut incurred = outstanding;
+    let mut at = start;
+    let mut j = 0;
+    while j + 1 < i {
+        // The sums of development year k stand at k − 1, and lead to year k + 1.
+        let place = n - i + j;
+        let year = next_year(outstanding, ratios[place]);
+        let ProjectedYear::Within(movement) = year else {
+            return refused_row(refusal_at(9, i, place + 2));
+        };
+        let payment = movement.payment;
+        let adjustment = movement.adjustment;
+        outstanding = movement.outstanding;
+        write_three(future, at, payment.0, adjustment.0, outstanding.0);
+        paid = plus(paid, payment);
+        incurred = plus(incurred, adjustment);
+        at += 3;
+        j += 1;
+    }
+    ProjectedRow {
+        verdict: Verdict::Accepted,
+        paid: paid,
+        incurred: incurred,
+        closing: outstanding,
+    }
+}
+
+fn refused_row(verdict: Verdict) -> ProjectedRow
+    ensures { λ r. ⌜ r .verdict ≡ verdict ⌝ }
+{
+    ProjectedRow {
+        verdict: verdict,
+        paid: Millionths(0),
+        incurred: Millionths(0),
+        closing: Millionths(0),
+    }
+}
+
+fn plus(sum: Millionths, figure: Millionths) -> Millionths
+    requires { ⌜ Addable (sum .0) (figure .0) ⌝ }
+    ensures { λ r. ⌜ r .0 ≡ sum .0 +ℤ figure .0 ⌝ }
+{
+    Millionths(sum.0 + figure.0)
+}

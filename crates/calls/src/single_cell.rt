@@ -1,0 +1,191 @@
+// One unseen cell alone.
+ghost use mathlib.Core.Path.{_≡_};
+ghost use Prim.Native.Nat.{_<_};
+ghost use Rattle.method.specs.Questions.{accepted, first-to, question-1, cell-unseen};
+ghost use Rattle.method.specs.Answers.{single-cell};
+ghost use Rattle.verdicts.specs.Verdicts.{verdict-of};
+ghost use Rattle.questions.specs.Lent.{lent};
+ghost use Rattle.projection.specs.Year.{movement-of};
+ghost use Rattle.calls.specs.Rows.{Projectable, verdict-of-row};
+ghost use Rattle.calls.specs.Cells.{CellInput, outstanding-of, movement-of-year, CellAccepted, cell-movement};
+ghost use Rattle.calls.specs.Answers.{cell-of, accepted-cell, refused-cell};
+use crate::rows::project_row;
+use projection::year::Movement;
+use projection::year::ProjectedYear;
+use projection::year::next_year;
+use questions::inputs::AnswerLists;
+use share::millionths::Millionths;
+use triangle::ratios::Development;
+use triangle::ratios::Sums;
+use triangle::reading::read;
+use verdicts::limits::DEVELOPMENT_YEARS;
+use verdicts::limits::from_to;
+use verdicts::verdict::Verdict;
+use verdicts::verdict::asked;
+
+// The verdict of questions 1 to 10, and the cell's figures; zeros where it is refused.
+pub struct Cell {
+    pub verdict: Verdict,
+    pub payment: Millionths,
+    pub adjustment: Millionths,
+    pub outstanding: Millionths,
+}
+
+// A cell of the future list, without the list: questions 1 to 9 are put to the whole triangle, and question 10 to the cell.
+// What is lent may be anything: n, the cut, the years of the cell and every number any i64, and the lists of any length.
+pub fn single_cell<'a>(
+    years: i64,
+    cut: i64,
+    payments: &'a [i64],
+    adjustments: &'a [i64],
+    weights: &'a [i64],
+    openings: &'a [i64],
+    accident_year: i64,
+    development_year: i64,
+) -> Cell
+    ensures { λ r. ⌜ cell-of r ≡ single-cell
+        (lent years cut (now (payments .entry)) (now (adjustments .entry)) (now (weights .entry)) (now (openings .entry)))
+        «accident_year» «development_year» ⌝ }
+{
+    let reading = read(
+        years,
+        cut,
+        payments,
+        adjustments,
+        weights,
+        openings,
+        AnswerLists::NotLent,
+    );
+    let observed = reading.verdict;
+    let Verdict::Accepted = observed else {
+        return refused(observed);
+    };
+    let development = reading.development;
+    let n = years as usize;
+    let projected = question_9(n, development);
+    let Verdict::Accepted = projected else {
+        return refused(projected);
+    };
+    let unseen = asked(cell_unseen(years, accident_year, development_year), 10);
+    let Verdict::Accepted = unseen else {
+        return refused(unseen);
+    };
+    cell_of(
+        n,
+        development,
+        accident_year as usize,
+        development_year as usize,
+    )
+}
+
+fn refused(verdict: Verdict) -> Cell
+    ensures { λ r. ⌜ cell-of r ≡ refused-cell (verdict-of verdict) ⌝ }
+{
+    Cell {
+        verdict: verdict,
+        payment: Millionths(0),
+        adjustment: Millionths(0),
+        outstanding: Millionths(0),
+    }
+}
+
+// Whether the cell is unseen. The sum of the two years is formed only where it is small.
+fn cell_unseen(years: i64, accident_year: i64, development_year: i64) -> bool
+    requires { ⌜ question-1 years ≡ accepted ⌝ }
+    ensures { λ r. ⌜ r ≡ cell-unseen years «accident_year» «development_year» ⌝ }
+{
+    if from_to(2, years, accident_year) {
+        from_to(years + 2 - accident_year, years, development_year)
+    } else {
+        false
+    }
+}
+
+// ---- Question 9
+
+// The first refusal of question 9, if there is one. Each accident year is projected into a list of its own.
+fn question_9(n: usize, development: Development) -> Verdict
+    requires { ⌜ Projectable n (development .ratios) (development .outstandings) ⌝ }
+    ensures { λ r. ⌜ verdict-of r ≡ first-to n (verdict-of-row n (development .ratios) (development .outstandings)) ⌝ }
+{
+    let ratios = development.ratios;
+    let outstandings = development.outstandings;
+    let mut figures = [0; FIGURES_OF_A_ROW];
+    let mut r = 0;
+    while r < n {
+        let row = project_row(n, r + 1, ratios, outstandings[r], &mut figures, 0);
+        let verdict = row.verdict;
+        let Verdict::Accepted = verdict else {
+            return verdict;
+        };
+        r += 1;
+    }
+    Verdict::Accepted
+}
+
+// Three for each development year but the first.
+const FIGURES_OF_A_ROW: usize = 93;
+
+// ---- The cell
+
+// Cell (i, k) of an accepted triangle.
+fn cell_of(n: usize, development: Development, i: usize, k: usize) -> Cell
+    requires { ⌜ CellAccepted n (development .ratios) (development .outstandings) i k ⌝ }
+    ensures { λ r. ⌜ cell-of r ≡ accepted-cell (cell-movement n (development .ratios) (development .outstandings) i k) ⌝ }
+{
+    let ratios = development.ratios;
+    let outstandings = development.outstandings;
+    let observed = Millionths::from_units(outstandings[i - 1]);
+    let movement = movement(ratios, n + 1 - i, observed, k);
+    let payment = movement.payment;
+    let adjustment = movement.adjustment;
+    let outstanding = movement.outstanding;
+    Cell {
+        verdict: Verdict::Accepted,
+        payment: payment,
+        adjustment: adjustment,
+        outstanding: outstanding,
+    }
+}
+
+// The outstanding of a year is taken from that year's movement, and the movement from the outstanding before it.
+fn outstanding(
+    ratios: [Sums; DEVELOPMENT_YEARS],
+    last: usize,
+    observed: Millionths,
+    year: usize,
+) -> Millionths
+    requires { ⌜ CellInput ratios last (observed .0) year ⌝ }
+    ensures { λ r. ⌜ r .0 ≡ outstanding-of ratios last (observed .0) year ⌝ }
+{
+    if year == last {
+        observed
+    } else {
+        let movement = movement(ratios, last, observed, year);
+        movement.outstanding
+    }
+}
+
+fn movement(
+    ratios: [Sums; DEVELOPMENT_YEARS],
+    last: usize,
+    observed: Millionths,
+    year: usize,
+) -> Movement
+    requires { ⌜ CellInput ratios last (observed .0) year × (last < year) ⌝ }
+    ensures { λ r. ⌜ r ≡ movement-of (movement-of-year ratios last (observed .0) year) ⌝ }
+{
+    let before = outstanding(ratios, last, observed, year - 1);
+    let projected = next_year(before, ratios[year - 2]);
+    let ProjectedYear::Within(movement) = projected else {
+        return NO_MOVEMENT;
+    };
+    movement
+}
+
+// Never answered: question 9 has accepted every year.
+const NO_MOVEMENT: Movement = Movement {
+    payment: Millionths(0),
+    adjustment: Millionths(0),
+    outstanding: Millionths(0),
+};

@@ -1,0 +1,214 @@
+-- One projected year: its two shares, its outstanding, and whether they are within the limit of question 9.
+use mathlib.Core.Path.{_≡_, refl, sym, ap, ap₂, _∙_, subst}
+use mathlib.Core.Bool.{Bool, true, false, true≢false}
+use Prim.Native.Nat.{_≤_}
+use native.Mathlib.Omega.{arith}
+use lib.Dec.{lit<}
+use borrow.Author.Tests.{ltb-true, ltb-false, le-leb, lt-leb}
+use lib.IntN.{ℤ, pos, negsuc, _+ℤ_, _-ℤ_, natAbs}
+use lib.Signed.{leZ, ltZ, _≤ℤ_}
+use mir.Syntax.{w64}
+use mir.Val.{SFits}
+use Rattle.integers.specs.Fraction.{size}
+use Rattle.integers.proofs.LinearFacts.{integers, fits-by}
+use Rattle.integers.proofs.RingSolver.{con, _:+_, _:-_}
+use Rattle.integers.proofs.Order.{natAbs-parts}
+use Rattle.integers.proofs.MachineArithmetic.{fits-natAbs}
+use Rattle.method.specs.Limits.{greatest-figure, greatest-sum}
+use Rattle.method.specs.Outstandings.{Sums}
+use Rattle.method.specs.ProjectedYear.{Movement, share, next-year}
+use Rattle.method.specs.Questions.{figures-in-range}
+use Rattle.method.proofs.QuestionFacts.{FiguresInRange, figures-in-range-true}
+use Rattle.method.proofs.Projection.{next-nonneg}
+use Rattle.share.specs.Share.{ShareInput, greatest-size}
+use Rattle.share.specs.Share as answer
+use Rattle.share.specs.declared.Share.the-variants as variants
+use Rattle.share.specs.declared.millionths.Millionths.{Millionths}
+use Rattle.share.proofs.Answers.{rounded-is, rounded-size, too-large-is}
+use Rattle.projection.specs.declared.year.Movement as code
+use Rattle.projection.specs.declared.year.ProjectedYear.{ProjectedYear}
+use Rattle.projection.specs.declared.year.ProjectedYear.the-variants.{Within, TooLarge}
+use Rattle.projection.specs.Year.{YearInput, answered, movement-of}
+
+module _ {r : ℤ} {s : Sums} (y : YearInput r s) where
+  pub payment-input : ShareInput r (s .P) (s .D)
+  payment-input = record {
+    outstanding-nonneg = y .outstanding-nonneg;
+    outstanding-most = y .outstanding-most;
+    part-size = y .sums-right .payments-size;
+    exposure-positive = y .sums-right .exposure-positive;
+    exposure-most = y .sums-right .exposure-most;
+  }
+
+  pub adjustment-input : ShareInput r (s .Q) (s .D)
+  adjustment-input = record {
+    outstanding-nonneg = y .outstanding-nonneg;
+    outstanding-most = y .outstanding-most;
+    part-size = y .sums-right .adjustments-size;
+    exposure-positive = y .sums-right .exposure-positive;
+    exposure-most = y .sums-right .exposure-most;
+  }
+
+-- ---- The answer
+
+answered-within : (m : Movement) → figures-in-range m ≡ true → Within (movement-of m) ≡ answered m
+unfolding answered
+answered-within m e = rw e
+
+answered-too-large : (m : Movement) → figures-in-range m ≡ false → TooLarge ≡ answered m
+unfolding answered
+answered-too-large m e = rw e
+
+movement : ProjectedYear → code.Movement
+movement (Within m) = m
+movement TooLarge = movement-of (record { payment = pos 0; adjustment = pos 0; outstanding = pos 0 })
+
+within : ProjectedYear → Bool
+within (Within m) = true
+within TooLarge = false
+
+pub within-is : (x : Movement) (m : code.Movement) → Within m ≡ answered x → (m ≡ movement-of x) × (figures-in-range x ≡ true)
+unfolding movement within
+within-is x m e = go (figures-in-range x) refl
+  where
+    go : (b : Bool) → figures-in-range x ≡ b → (m ≡ movement-of x) × (figures-in-range x ≡ true)
+    go true f = (ap movement (e ∙ sym (answered-within x f)), f)
+    go false f = absurd (true≢false (ap within (e ∙ sym (answered-too-large x f))))
+
+-- its figures as naturals
+pub record FiguresSmall (m : code.Movement) : Type 0 where
+  pub payment : natAbs (m .payment .0) ≤ greatest-size
+  pub adjustment : natAbs (m .adjustment .0) ≤ greatest-size
+  pub outstanding : natAbs (m .outstanding .0) ≤ greatest-size
+
+pub within-small : (x : Movement) (m : code.Movement) → Within m ≡ answered x → FiguresSmall m
+within-small x m e = subst FiguresSmall (sym (within-is x m e .0)) (small (figures-in-range-true x (within-is x m e .1)))
+  where
+    small : FiguresInRange x → FiguresSmall (movement-of x)
+    small f = record {
+      payment = omega (arith, integers, f .payment);
+      adjustment = omega (arith, integers, f .adjustment);
+      outstanding = omega (arith, integers, f .outstanding);
+    }
+
+pub too-large-year : (x : Movement) → TooLarge ≡ answered x → figures-in-range x ≡ false
+unfolding within
+too-large-year x e = go (figures-in-range x) refl
+  where
+    go : (b : Bool) → figures-in-range x ≡ b → figures-in-range x ≡ false
+    go true f = absurd (true≢false (sym (ap within (e ∙ sym (answered-within x f)))))
+    go false f = f
+
+-- the sizes of three figures are within the limit, or one is not
+in-range : (a b c : ℤ) → leZ (size a) greatest-figure ≡ true → leZ (size b) greatest-figure ≡ true → leZ (size c) greatest-figure ≡ true
+    → figures-in-range (record { payment = a; adjustment = b; outstanding = c }) ≡ true
+unfolding figures-in-range
+in-range a b c p q r = rw (p, q, r)
+
+payment-out : (a b c : ℤ) → leZ (size a) greatest-figure ≡ false → figures-in-range (record { payment = a; adjustment = b; outstanding = c }) ≡ false
+unfolding figures-in-range
+payment-out a b c p = rw p
+
+adjustment-out : (a b c : ℤ) → leZ (size a) greatest-figure ≡ true → leZ (size b) greatest-figure ≡ false
+    → figures-in-range (record { payment = a; adjustment = b; outstanding = c }) ≡ false
+unfolding figures-in-range
+adjustment-out a b c p q = rw (p, q)
+
+outstanding-out : (a b c : ℤ) → leZ (size a) greatest-figure ≡ true → leZ (size b) greatest-figure ≡ true → leZ (size c) greatest-figure ≡ false
+    → figures-in-range (record { payment = a; adjustment = b; outstanding = c }) ≡ false
+unfolding figures-in-range
+outstanding-out a b c p q r = rw (p, q, r)
+
+-- an outstanding that is not negative needs one test only
+above : (x : ℤ) → pos 0 ≤ℤ x → ltZ greatest-figure x ≡ true → leZ (size x) greatest-figure ≡ false
+above (pos m) h e = lt-leb m greatest-size (ltb-true greatest-size m e)
+above (negsuc m) h e = absurd (h .le)
+
+not-above : (x : ℤ) → pos 0 ≤ℤ x → ltZ greatest-figure x ≡ false → leZ (size x) greatest-figure ≡ true
+not-above (pos m) h e = le-leb m greatest-size (ltb-false greatest-size m e)
+not-above (negsuc m) h e = absurd (h .le)
+
+module _ {r : ℤ} {s : Sums} (y : YearInput r s) where
+  abbrev paid : ℤ
+  paid = share r (s .P) (s .D)
+
+  abbrev adjusted : ℤ
+  adjusted = share r (s .Q) (s .D)
+
+  pub payment-too-large : variants.TooLarge ≡ answer.answered paid → TooLarge ≡ answered (next-year r s)
+  unfolding next-year
+  payment-too-large e = answered-too-large _ (payment-out _ _ _ (too-large-is paid e))
+
+  module _ {payment : Millionths} (p : variants.Rounded payment ≡ answer.answered paid) where
+    pub adjustment-too-large : variants.TooLarge ≡ answer.answered adjusted → TooLarge ≡ answered (next-year r s)
+    unfolding next-year
+    adjustment-too-large e = answered-too-large _ (adjustment-out _ _ _ (rounded-is paid payment p .1) (too-large-is adjusted e))
+
+    payment-size : natAbs (payment .0) ≤ greatest-size
+    payment-size = rounded-size paid payment p
+
+    module _ {adjustment : Millionths} (a : variants.Rounded adjustment ≡ answer.answered adjusted) where
+      abbrev next : ℤ
+      next = r -ℤ payment .0 +ℤ adjustment .0
+
+      adjustment-size : natAbs (adjustment .0) ≤ greatest-size
+      adjustment-size = rounded-size adjusted adjustment a
+
+      -- the movement that the code forms
+      is-next-year : _≡_ {A = Movement} (record { payment = payment .0; adjustment = adjustment .0; outstanding = next }) (next-year r s)
+      unfolding next-year
+      is-next-year = ap₂ (λ (x z : ℤ). record { payment = x; adjustment = z; outstanding = r -ℤ x +ℤ z }) (rounded-is paid payment p .0) (rounded-is adjusted adjustment a .0)
+
+      nonneg : pos 0 ≤ℤ next
+      nonneg = subst (λ (m : Movement). pos 0 ≤ℤ m .outstanding) (sym is-next-year)
+          (next-nonneg r s (y .sums-right .exposure-positive) (y .outstanding-nonneg) (y .sums-right .factor-nonneg))
+
+      payment-in : leZ (size (payment .0)) greatest-figure ≡ true
+      payment-in = le-leb (natAbs (payment .0)) greatest-size payment-size
+
+      adjustment-in : leZ (size (adjustment .0)) greatest-figure ≡ true
+      adjustment-in = le-leb (natAbs (adjustment .0)) greatest-size adjustment-size
+
+      pub outstanding-too-large : ltZ greatest-figure next ≡ true → TooLarge ≡ answered (next-year r s)
+      outstanding-too-large e =
+          answered-too-large _ (outstanding-out (payment .0) (adjustment .0) next payment-in adjustment-in (above next nonneg e)) ∙ ap answered is-next-year
+
+      pub all-within : ltZ greatest-figure next ≡ false
+          → Within (record { payment = payment; adjustment = adjustment; outstanding = record { 0 = next } }) ≡ answered (next-year r s)
+      all-within e =
+          answered-within _ (in-range (payment .0) (adjustment .0) next payment-in adjustment-in (not-above next nonneg e)) ∙ ap answered is-next-year
+
+-- ---- Within 64 bits
+
+-- an outstanding, its year's payment and adjustment, and what they make
+pub record NumbersFit (r x z : ℤ) : Type 0 where
+  pub outstanding : SFits w64 r
+  pub payment : SFits w64 x
+  pub adjustment : SFits w64 z
+  pub less-payment : SFits w64 (r -ℤ x)
+  pub next : SFits w64 (r -ℤ x +ℤ z)
+
+module _ {r : ℤ} {s : Sums} (y : YearInput r s) where
+  pub payments-fit : SFits w64 (s .P)
+  payments-fit = fits-natAbs w64 (s .P) greatest-sum (y .sums-right .payments-size) (lit< tt)
+
+  pub adjustments-fit : SFits w64 (s .Q)
+  adjustments-fit = fits-natAbs w64 (s .Q) greatest-sum (y .sums-right .adjustments-size) (lit< tt)
+
+  pub exposure-fits : SFits w64 (s .D)
+  exposure-fits = fits-by w64 (con (s .D)) (omega (arith, integers, y .sums-right .exposure-positive, y .sums-right .exposure-most))
+
+  pub numbers-fit : {x z : Millionths} → variants.Rounded x ≡ answer.answered (share r (s .P) (s .D)) → variants.Rounded z ≡ answer.answered (share r (s .Q) (s .D))
+      → NumbersFit r (x .0) (z .0)
+  numbers-fit {x} {z} p a =
+      let b : natAbs (x .0) ≤ greatest-size = rounded-size _ x p in
+      let d : natAbs (z .0) ≤ greatest-size = rounded-size _ z a in
+      let h = y .outstanding-nonneg in
+      let l = y .outstanding-most in
+      record {
+        outstanding = fits-by w64 (con r) (omega (arith, integers));
+        payment = fits-natAbs w64 (x .0) greatest-size b (lit< tt);
+        adjustment = fits-natAbs w64 (z .0) greatest-size d (lit< tt);
+        less-payment = fits-by w64 (con r :- con (x .0)) (omega (arith, integers, natAbs-parts (x .0)));
+        next = fits-by w64 (con r :- con (x .0) :+ con (z .0)) (omega (arith, integers, natAbs-parts (x .0), natAbs-parts (z .0)));
+      }

@@ -1,0 +1,50 @@
+// One projected year: its payment, its adjustment, and the outstanding that they lead to.
+ghost use mathlib.Core.Path.{_≡_};
+ghost use Rattle.method.specs.ProjectedYear.{next-year};
+ghost use Rattle.triangle.specs.Ratios.{sums-of};
+ghost use Rattle.projection.specs.Year.{YearInput, answered};
+use share::Share;
+use share::millionths::Millionths;
+use share::rounded_share;
+use triangle::ratios::Sums;
+
+// The figures of a projected cell.
+pub struct Movement {
+    pub payment: Millionths,
+    pub adjustment: Millionths,
+    pub outstanding: Millionths,
+}
+
+// A projected year, or that the size of one of its figures passes the limit of question 9.
+pub enum ProjectedYear {
+    Within(Movement),
+    TooLarge,
+}
+
+// The year after one that ends with this outstanding and has these sums.
+pub fn next_year(outstanding: Millionths, sums: Sums) -> ProjectedYear
+    requires { ⌜ YearInput (outstanding .0) (sums-of sums) ⌝ }
+    ensures { λ r. ⌜ r ≡ answered (next-year (outstanding .0) (sums-of sums)) ⌝ }
+{
+    let exposure = sums.exposure;
+    let paid = rounded_share(outstanding, sums.payments, exposure);
+    let Share::Rounded(payment) = paid else {
+        return ProjectedYear::TooLarge;
+    };
+    let adjusted = rounded_share(outstanding, sums.adjustments, exposure);
+    let Share::Rounded(adjustment) = adjusted else {
+        return ProjectedYear::TooLarge;
+    };
+    let next = outstanding.0 - payment.0 + adjustment.0;
+    if next > GREATEST_FIGURE {
+        return ProjectedYear::TooLarge;
+    }
+    ProjectedYear::Within(Movement {
+        payment: payment,
+        adjustment: adjustment,
+        outstanding: Millionths(next),
+    })
+}
+
+// Of a projected figure, in millionths, of either sign. An outstanding is never negative.
+const GREATEST_FIGURE: i64 = 10_000_000_000_000_000;

@@ -1,0 +1,142 @@
+/*
+ * Outstanding-driven reserves of a run-off triangle.
+ *
+ * Terms
+ *
+ * There are n accident years, 1 (oldest) to n (youngest), and n development years, 1 to n.
+ * The cell (i, k) is accident year i, development year k.
+ * It is seen when i + k is at most n + 1, and unseen when i + k is above n + 1.
+ * `years` is n and `cut` is Y: cells with i + k at most Y are missing and hold 0.
+ * With Y = 1 nothing is missing.
+ *
+ * Lists that a call reads, in whole currency units
+ *
+ *   list         length         order
+ *   payments     n (n + 1) / 2  S(i, k) of every seen cell, row after row, oldest accident year first
+ *   adjustments  n (n + 1) / 2  T(i, k), the adjustment to the reported amount, in the same order
+ *   weights      n (n - 1) / 2  w(i, k) of every cell with i + k at most n, row after row, oldest first
+ *   openings     Y - 1          R(i, Y - i), the opening outstandings of i = 1 to Y - 1, oldest first
+ *
+ * In payments and adjustments the row of accident year i has n + 1 - i numbers,
+ * and its first stands at (i - 1) (2 n + 2 - i) / 2, counted from 0.
+ * In weights it has n - i numbers, and its first stands at (i - 1) (2 n - i) / 2.
+ *
+ * Lists that a call writes, in millionths of a unit
+ *
+ *   list         length           order
+ *   future       3 n (n - 1) / 2  payment, adjustment, outstanding of every unseen cell with k at most n,
+ *                                 row after row, oldest accident year first
+ *   reserves     3 n              paid-based reserve, incurred-based reserve, closing outstanding
+ *                                 of every accident year, oldest first
+ *
+ * In future the three numbers of the cell (i, k) start at
+ * 3 ((i - 1) (i - 2) / 2 + k - (n + 2 - i)), counted from 0.
+ *
+ * Verdicts
+ *
+ * The questions are asked in the order of their numbers, each list in its order; the first no decides.
+ * The place is the cell (accident_year, development_year).
+ *
+ *   number  what is wrong                                                            place
+ *   0       nothing, the call is accepted                                            (0, 0)
+ *   1       n is not from 2 to 32                                                    (0, 0)
+ *   2       Y is not from 1 to n - 1                                                 (0, 0)
+ *   3       a list, read or written, does not have its length                        (0, 0)
+ *   4       a weight is not from 0 to 100                                            its cell
+ *   5       a payment, or else an adjustment, is not from -1,000,000,000 to
+ *           1,000,000,000, or is not 0 where the cell is missing                     its cell
+ *   6       an opening or an observed outstanding is not from 0 to 1,000,000,000     its cell
+ *   7       a weight is not 0 where i + k is at most Y                               its cell
+ *   8       the exposure D(k) of a development year is not above 0                   (0, k)
+ *   9       a projected payment, adjustment or outstanding is above
+ *           10,000,000,000 units in size                                             its cell
+ *   10      only for a single cell or a row: the cell is not an unseen one with
+ *           i from 2 to n and k at most n, or the accident year is not from 1 to n   (0, 0)
+ *
+ * What a caller sees to
+ *
+ * Any numbers and any counts may be passed: the call tests them, and nothing needs to be tested beforehand.
+ * Each pointer must be aligned and valid for its count of numbers, for writing as well where the list is written.
+ * A count of 0 still wants a pointer that is not null.
+ * The two answer lists must not overlap each other or any other list.
+ *
+ * What a call keeps to
+ *
+ * Nothing is allocated, and nothing is kept when the call returns.
+ * Lists that a call reads are not altered.
+ * Calls may run at the same time. They may read the same lists, but each writes answer lists of its own.
+ */
+#ifndef JUNIPERPROW_H
+#define JUNIPERPROW_H
+
+#include <stddef.h>
+#include <stdint.h>
+
+#ifdef __cplusplus
+extern "C" {
+#endif
+
+/* The smallest and the largest number of accident years n. */
+#define JUNIPERPROW_SMALLEST_YEARS INT64_C(2)
+#define JUNIPERPROW_LARGEST_YEARS INT64_C(32)
+
+/* One currency unit in millionths. */
+#define JUNIPERPROW_ONE_UNIT INT64_C(1000000)
+
+/* The number of the question that was answered with no, or 0, and the place. */
+typedef struct {
+    int64_t number;
+    int64_t accident_year;
+    int64_t development_year;
+} juniperprow_verdict;
+
+/* The verdict on a single cell, and its three figures in millionths of a unit. */
+typedef struct {
+    juniperprow_verdict verdict;
+    int64_t payment;
+    int64_t adjustment;
+    int64_t outstanding;
+} juniperprow_cell;
+
+/*
+ * Projects the triangle and fills both answer lists. Asks questions 1 to 9.
+ * On refusal every number of both answer lists is 0, whatever their counts.
+ */
+juniperprow_verdict juniperprow_reserve(
+    int64_t years, int64_t cut,
+    const int64_t *payments, size_t payments_count,
+    const int64_t *adjustments, size_t adjustments_count,
+    const int64_t *weights, size_t weights_count,
+    const int64_t *openings, size_t openings_count,
+    int64_t *future, size_t future_count,
+    int64_t *reserves, size_t reserves_count);
+
+/*
+ * Answers one unseen cell alone, with the same three figures as in the future list.
+ * Asks questions 1 to 9 of the whole triangle, then question 10 of the cell.
+ * On refusal the three figures are 0.
+ */
+juniperprow_cell juniperprow_single_cell(
+    int64_t years, int64_t cut,
+    const int64_t *payments, size_t payments_count,
+    const int64_t *adjustments, size_t adjustments_count,
+    const int64_t *weights, size_t weights_count,
+    const int64_t *openings, size_t openings_count,
+    int64_t accident_year, int64_t development_year);
+
+/*
+ * Says whether the seen figures of one accident year can be taken from the two lists.
+ * Asks questions 1, 3 and 10; the amounts themselves are not tested.
+ * When accepted, the row is the part of either list that the table above describes.
+ */
+juniperprow_verdict juniperprow_row_verdict(
+    int64_t years,
+    const int64_t *payments, size_t payments_count,
+    const int64_t *adjustments, size_t adjustments_count,
+    int64_t accident_year);
+
+#ifdef __cplusplus
+}
+#endif
+
+#endif

@@ -1,0 +1,119 @@
+//! Compares the engine's library with an independent implementation of document 01.
+//!
+//! Run with `cargo run --release -- [seed] [calls]`; the seed may be hexadecimal, as in 0x1f.
+//! The exit status is 1 if an answer differs, or if some number or size was met too seldom.
+
+mod comparison;
+mod document_01;
+mod examples;
+mod inputs;
+mod random;
+mod tally;
+mod unrounded;
+mod whole_number;
+
+use std::process::ExitCode;
+use std::thread;
+
+use comparison::Difference;
+use inputs::Call;
+use tally::Tally;
+
+const SEED: u64 = 0x2008_0001;
+const CALLS: u64 = 200_000;
+
+/// The calls are dealt out in turn; the outcome does not depend on how many threads there are.
+const THREADS: u64 = 2;
+
+/// One round of calls in so many also goes through the binding's own functions.
+const ROUNDS_FOR_BINDING: u64 = 9;
+
+fn main() -> ExitCode {
+    let mut arguments = std::env::args().skip(1);
+    let seed = arguments.next().map_or(Some(SEED), |text| number(&text));
+    let calls = arguments.next().map_or(Some(CALLS), |text| number(&text));
+    let (Some(seed), Some(calls), None) = (seed, calls, arguments.next()) else {
+        eprintln!("usage: differential [seed] [calls]");
+        return ExitCode::FAILURE;
+    };
+    match run(seed, calls) {
+        Ok(()) => ExitCode::SUCCESS,
+        Err(reason) => {
+            println!("{reason}");
+            ExitCode::FAILURE
+        }
+    }
+}
+
+/// A number in decimal, or in hexadecimal after 0x.
+fn number(text: &str) -> Option<u64> {
+    match text.strip_prefix("0x") {
+        Some(digits) => u64::from_str_radix(digits, 16).ok(),
+        None => text.parse().ok(),
+    }
+}
+
+fn run(seed: u64, calls: u64) -> Result<(), String> {
+    examples::check(examples::by_document_01)
+        .map_err(|difference| format!("the independent implementation differs: {difference}"))?;
+    examples::check(juniperprow::raw::reserve)
+        .map_err(|difference| format!("the library differs: {difference}"))?;
+    println!("E1 to E12 are as document 01 has them\n");
+
+    let tally = compare_all(seed, calls)?;
+    println!("{tally}");
+    let shortfalls = tally.shortfalls(calls);
+    if !shortfalls.is_empty() {
+        return Err(format!("met too seldom:\n{}", shortfalls.join("\n")));
+    }
+    println!("differential test: {calls} calls agree, seed {seed:#x}");
+    Ok(())
+}
+
+/// Compares all calls, each thread its part; describes the first call that differs.
+fn compare_all(seed: u64, calls: u64) -> Result<Tally, String> {
+    let mut tally = Tally::new();
+    let mut first_difference: Option<(u64, Difference)> = None;
+    thread::scope(|scope| {
+        let parts: Vec<_> = (0..THREADS)
+            .map(|part| scope.spawn(move || compare_part(seed, calls, part)))
+            .collect();
+        for part in parts {
+            let (counted, difference) = part.join().expect("a part of the calls panicked");
+            tally.add(&counted);
+            first_difference = [first_difference.take(), difference]
+                .into_iter()
+                .flatten()
+                .min_by_key(|(number, _)| *number);
+        }
+    });
+    match first_difference {
+        None => Ok(tally),
+        Some((number, difference)) => Err(described(seed, number, &difference)),
+    }
+}
+
+/// Compares the calls whose number leaves the rest `part`, up to the first that differs.
+fn compare_part(seed: u64, calls: u64, part: u64) -> (Tally, Option<(u64, Difference)>) {
+    let mut tally = Tally::new();
+    for number in (part..calls).step_by(THREADS as usize) {
+        let call = Call::numbered(seed, number);
+        let with_binding = number.is_multiple_of(ROUNDS_FOR_BINDING);
+        if let Err(difference) = comparison::compare(&call, with_binding, &mut tally) {
+            return (tally, Some((number, difference)));
+        }
+    }
+    (tally, None)
+}
+
+fn described(seed: u64, number: u64, difference: &Difference) -> String {
+    let Difference {
+        subject,
+        document_01,
+        library,
+    } = difference;
+    let call = Call::numbered(seed, number);
+    format!(
+        "seed {seed:#x}, call {number} differs in: {subject}\n{call}  document 01 answers {document_01}\n  the library answers {library}"
+    )
+}
