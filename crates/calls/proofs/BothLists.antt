@@ -5,7 +5,7 @@ use Prim.Native.Nat.{ℕ}
 use lib.IntN.{ℤ, pos}
 use lib.ListN.{length, replicate}
 use Rattle.method.specs.Triangle.{Triangle, n}
-use Rattle.method.specs.Questions.{Place, Verdict, accepted, refused, observed-questions, questions, lengths-right}
+use Rattle.method.specs.Questions.{Place, Verdict, accepted, refused, questions, lengths-right}
 use Rattle.method.specs.Answers.{Answer, answer}
 use Rattle.method.specs.Claim.{Demand-3}
 use Rattle.method.proofs.FirstRefusal.{not-both, stopped}

@@ -1,19 +1,18 @@
 -- The projection of what was read of a triangle is the projection of the triangle.
-use mathlib.Core.Path.{_≡_, refl, sym, ap, ap₂, _∙_}
+use mathlib.Core.Path.{_≡_, sym, ap, ap₂, _∙_}
 use mathlib.Core.List.{List, [], _∷_, _++_}
 use Prim.Native.Nat.{ℕ, zero, suc, _+_, _-_, _≤_, _<_}
 use native.Mathlib.Omega.{arith}
 use native.Mathlib.Numerals.{add-one}
 use lib.IntN.{ℤ, pos, _+ℤ_, _*ℤ_}
-use lib.ListN.{getD}
-use lib.Signed.{_≤ℤ_, _<ℤ_}
-use Rattle.method.specs.Limits.{one-unit, greatest-outstanding}
-use Rattle.method.specs.Counting.{sum-to, list-to}
+use lib.Signed.{_<ℤ_}
+use Rattle.method.specs.Limits.{one-unit}
+use Rattle.method.specs.Counting.{list-to}
 use Rattle.method.specs.Triangle.{Triangle, n, entry}
 use Rattle.method.specs.Outstandings.{R, sums}
 use Rattle.method.specs.Outstandings as meaning
 use Rattle.method.specs.ProjectedYear.{Movement, next-year, figures, O, movement, last-observed, year-before, future-row, future, paid-reserve, incurred-reserve, closing, reserves-row, reserves}
-use Rattle.method.specs.Questions.{Verdict, at, ask, first-to, figures-in-range, question-9-of-year, question-9}
+use Rattle.method.specs.Questions.{at, ask, first-to, figures-in-range, question-9-of-year, question-9}
 use Rattle.method.proofs.Counting.{up-to-same}
 use Rattle.method.proofs.Sums.{sum-same}
 use Rattle.method.proofs.FirstRefusal.{first-same}

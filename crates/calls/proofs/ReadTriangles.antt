@@ -1,10 +1,7 @@
 -- A triangle that questions 1 to 8 accept: what was read of it can be projected, and question 9 completes its verdict.
-use mathlib.Core.Path.{_≡_, sym, ap, _∙_}
-use Prim.Native.Nat.{ℕ, _≤_, _<_}
-use lib.IntN.{pos}
-use lib.Signed.{_<ℤ_}
+use mathlib.Core.Path.{_≡_, sym, _∙_}
+use Prim.Native.Nat.{ℕ}
 use Rattle.method.specs.Triangle.{Triangle, n, future-length, reserves-length}
-use Rattle.method.specs.Outstandings.{sums}
 use Rattle.method.specs.Questions.{Verdict, accepted, question-1, input-questions, question-8, observed-questions, question-9, questions, lengths-right}
 use Rattle.method.proofs.FirstRefusal.{then-accepted, went-on}
 use Rattle.method.proofs.QuestionFacts as facts

@@ -1,13 +1,12 @@
 -- One row, projected year by year: its outstanding, its sums and what is written so far.
 use mathlib.Core.Path.{_≡_, refl, sym, ap, ap₂, _∙_, subst}
-use mathlib.Core.Bool.{true, false}
 use mathlib.Core.List.{List, [], _∷_, _++_, append-assoc, append-nil}
-use Prim.Native.Nat.{ℕ, zero, suc, _+_, _*_, _-_, _≤_, _<_}
+use Prim.Native.Nat.{ℕ, suc, _+_, _*_, _-_, _≤_, _<_}
 use native.Mathlib.Numerals.{add-one}
 use native.Mathlib.Omega.{arith}
 use lib.Dec.{lit<}
 use lib.IntN.{ℤ, pos, _+ℤ_, _*ℤ_, natAbs, +ℤ-idr}
-use lib.ListN.{length, getD, take, drop, length-append}
+use lib.ListN.{length, take, drop, length-append}
 use lib.Seq.{sets, sets-eq, length-sets, take-at, length-take-le}
 use lib.Signed.{_≤ℤ_, leZ-yes}
 use mir.Syntax.{w64}
@@ -16,16 +15,13 @@ use Rattle.integers.proofs.MachineArithmetic.{fits-natAbs}
 use Rattle.integers.proofs.RingSolver.{con, _:+_, _:*_, _:=_, ring}
 use Rattle.integers.proofs.LinearFacts.{integers, ≤ℤ-by}
 use Rattle.integers.proofs.Order.{*ℤ-nonneg, natAbs-by, natAbs-+ℤ, natAbs-≤}
-use Rattle.integers.specs.Fraction.{size}
 use Rattle.method.specs.Limits.{one-unit, greatest-figure, greatest-outstanding, most-accident-years}
-use Rattle.method.specs.Counting.{list-to}
 use Rattle.method.specs.ProjectedYear as meaning
 use Rattle.method.specs.ProjectedYear.{next-year, figures}
-use Rattle.method.specs.Questions.{Place, Verdict, accepted, refused, at, figures-in-range}
+use Rattle.method.specs.Questions.{accepted, refused, at, figures-in-range}
 use Rattle.method.proofs.Counting.{up-to-none, up-to-more}
 use Rattle.method.proofs.Sums.{sum-none, sum-more}
 use Rattle.method.proofs.FirstRefusal.{ask-yes, ask-no, PassedSoFar, none-asked, next-accepted, next-refused, all-accepted}
-use Rattle.method.proofs.QuestionFacts.{FiguresInRange, figures-in-range-true}
 use Rattle.method.proofs.Projection.{next-nonneg}
 use Rattle.share.specs.Share.{greatest-size}
 use Rattle.triangle.specs.declared.ratios.Sums.{Sums}

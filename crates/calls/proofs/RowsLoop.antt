@@ -1,7 +1,7 @@
 -- All rows, projected one after another: both lists fill from the left.
 use mathlib.Core.Path.{_≡_, refl, sym, ap, ap₂, _∙_, subst}
 use mathlib.Core.List.{List, [], _∷_, _++_}
-use Prim.Native.Nat.{ℕ, zero, suc, _+_, _*_, _-_, _≤_, _<_}
+use Prim.Native.Nat.{ℕ, suc, _+_, _*_, _-_, _≤_, _<_}
 use native.Mathlib.Numerals.{add-one}
 use native.Mathlib.Omega.{arith}
 use lib.IntN.{ℤ, pos, _*ℤ_}
@@ -9,8 +9,8 @@ use lib.ListN.{length, getD, take}
 use lib.Seq.{sets, length-sets, take-all}
 use Rattle.method.specs.Limits.{one-unit}
 use Rattle.method.specs.Counting.{list-to}
-use Rattle.method.specs.Triangle.{entry, future-length, reserves-length}
-use Rattle.method.specs.Questions.{Place, Verdict, accepted, refused, first-to}
+use Rattle.method.specs.Triangle.{future-length, reserves-length}
+use Rattle.method.specs.Questions.{Place, accepted, refused}
 use Rattle.method.specs.Claim.{unseen-before}
 use Rattle.method.proofs.Counting.{up-to-none, up-to-more}
 use Rattle.method.proofs.FirstRefusal.{not-both, PassedSoFar, none-asked, next-accepted, next-refused, all-accepted}

@@ -1,9 +1,7 @@
 -- The call for a single cell: accepted and refused, its whole answer is the definition's.
-use mathlib.Core.Path.{_≡_, refl, sym, ap, ap₂, _∙_, subst}
-use mathlib.Core.Bool.{Bool, true}
+use mathlib.Core.Path.{_≡_, sym, ap, ap₂, _∙_, subst}
 use mathlib.Core.List.{List}
 use Prim.Native.Nat.{ℕ, zero, suc, _+_, _-_, _≤_, _<_}
-use native.Mathlib.Numerals.{add-one}
 use native.Mathlib.Omega.{arith}
 use lib.IntN.{ℤ, pos, _*ℤ_, natAbs}
 use lib.ListN.{getD}
@@ -11,17 +9,16 @@ use Rattle.method.specs.Limits.{one-unit}
 use Rattle.method.specs.Triangle.{Triangle, n, entry}
 use Rattle.method.specs.ProjectedYear.{Movement, movement, year-before}
 use Rattle.method.specs.Questions.{Place, Verdict, accepted, refused, first-to, figures-in-range}
-use Rattle.method.specs.Answers.{CellAnswer, cell-verdict, cell-figures, single-cell}
-use Rattle.method.specs.Claim.{Projected}
-use Rattle.method.proofs.FirstRefusal.{ask-accepted, first-accepted, stopped, went-on}
+use Rattle.method.specs.Answers.{cell-verdict, cell-figures, single-cell}
+use Rattle.method.proofs.FirstRefusal.{ask-accepted, first-accepted}
 use Rattle.method.proofs.QuestionFacts.{UnseenCell}
 use Rattle.method.proofs.Positions.{entry-at}
 use Rattle.triangle.specs.declared.ratios.Sums.{Sums}
 use Rattle.triangle.specs.Ratios.{DevelopmentOf}
-use Rattle.calls.specs.Rows.{sums-at, projected-year, row-question, row-verdict, observed-of, verdict-of-row, RowInput, Projectable}
-use Rattle.calls.specs.Cells.{CellInput, movement-of-year, cell-movement, CellAccepted}
+use Rattle.calls.specs.Rows.{projected-year, row-question, row-verdict, observed-of, verdict-of-row, RowInput, Projectable}
+use Rattle.calls.specs.Cells.{CellInput, cell-movement, CellAccepted}
 use Rattle.calls.specs.Answers.{accepted-cell, refused-cell}
-use Rattle.calls.proofs.RowLoop.{RowInMillionths, in-millionths, units-small}
+use Rattle.calls.proofs.RowLoop.{RowInMillionths, in-millionths}
 use Rattle.calls.proofs.OfTriangle.{year-is}
 
 -- ---- An accepted cell of what was read

@@ -104,13 +104,9 @@ pub extern "C" fn juniperprow_row_verdict<'a>(
 ) -> VerdictAnswer
     ensures { λ r. ⌜ r ≡ verdict-answer (meaning.row-verdict years (now (payments .entry)) (now (adjustments .entry)) «accident_year») ⌝ }
 {
-    verdict_answer(row_verdict(
-        years,
-        payments,
-        adjustments,
-        AmountList::Payments,
-        accident_year,
-    ))
+    let named = AmountList::Payments;
+    let verdict = row_verdict(years, payments, adjustments, named, accident_year);
+    verdict_answer(verdict)
 }
 
 fn verdict_answer(verdict: Verdict) -> VerdictAnswer

@@ -1,9 +1,8 @@
 -- The call, and its verdict as a number and a place.
 use borrow.Author.Needs.{needs}
-use mathlib.Core.Path.{_≡_, ap, _∙_}
+use mathlib.Core.Path.{ap}
 use mir.Facts.{toZ-ofZ}
 use Rattle.integers.proofs.MachineArithmetic.{held}
-use Rattle.calls.specs.Answers.{cell-of}
 use Rattle.juniperprow.specs.HostAnswers.{cell-answer}
 use Rattle.juniperprow.proofs.juniperprow_single_cell.Statement.{statement}
 use Rattle.juniperprow.proofs.juniperprow_single_cell.Tie as tie

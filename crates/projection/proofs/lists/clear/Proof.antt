@@ -2,7 +2,6 @@
 use borrow.Author.Needs.{needs}
 use native.Mathlib.Omega.{arith}
 use Prim.Native.Nat.{_-_}
-use lib.ListN.{length}
 use Rattle.projection.proofs.Zeros.{ZeroBefore, none-zero, one-more-zero, all-zero}
 use Rattle.projection.proofs.lists.clear.Statement.{statement}
 use Rattle.projection.proofs.lists.clear.Tie as tie
