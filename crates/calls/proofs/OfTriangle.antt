@@ -24,6 +24,7 @@ use Rattle.method.proofs.SumBounds.{sums-in-range}
 use Rattle.triangle.specs.declared.ratios.Sums.{Sums}
 use Rattle.triangle.specs.Ratios.{DevelopmentOf}
 use Rattle.projection.specs.Year.{SumsRight}
+use Rattle.calls.proofs.RowLoop.{same-three}
 use Rattle.calls.specs.Rows.{sums-at, outstanding-after, projected-year, row-question, row-verdict, row-figures, row-payments, row-adjustments, row-reserves, observed-of, verdict-of-row, figures-of-row, reserves-of-row, Projectable}
 
 module _ {t : Triangle} {ratios : List Sums} {outstandings : List ℤ} (d : DevelopmentOf t ratios outstandings) where
@@ -75,13 +76,10 @@ module _ {t : Triangle} {ratios : List Sums} {outstandings : List ℤ} (d : Deve
 
     reserves-are : reserves-of-row (n t) ratios outstandings i ≡ reserves-row t i
     unfolding reserves-of-row row-reserves row-payments row-adjustments reserves-row paid-reserve incurred-reserve closing
-    reserves-are = three
+    reserves-are = same-three
         (sum-same (i - 1) _ _ (λ j h. ap (λ (m : Movement). m .payment) (year-is j h)))
         (ap₂ _+ℤ_ observed-is (sum-same (i - 1) _ _ (λ j h. ap (λ (m : Movement). m .adjustment) (year-is j h))))
         (let e : n t - i + suc (i - 1) ≡ n t = omega arith in after-is (i - 1) (omega arith) ∙ ap (O t i) e)
-      where
-        three : {a b c x y z : ℤ} → a ≡ x → b ≡ y → c ≡ z → _≡_ {A = List ℤ} (a ∷ b ∷ c ∷ []) (x ∷ y ∷ z ∷ [])
-        three p q r = cc
 
   -- ---- All rows
 

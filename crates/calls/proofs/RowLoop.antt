@@ -29,9 +29,12 @@ use Rattle.projection.specs.declared.year.Movement.{Movement}
 use Rattle.projection.specs.declared.year.ProjectedYear.the-variants.{Within, TooLarge}
 use Rattle.projection.specs.Year.{SumsRight, YearInput, answered, movement-of}
 use Rattle.projection.proofs.Years.{within-is, FiguresSmall, within-small, too-large-year}
-use Rattle.calls.specs.Rows.{sums-at, outstanding-after, projected-year, row-question, row-verdict, row-figures, row-payments, row-adjustments, row-reserves, RowInput, Addable}
+use Rattle.calls.specs.Rows.{sums-at, outstanding-after, projected-year, row-question, row-verdict, row-figures, row-payments, row-adjustments, row-reserves, RowRight, RowInput, Addable}
 
--- ---- Stores one after another
+-- ---- Three numbers, and stores one after another
+
+pub same-three : {a b c x y z : ℤ} → a ≡ x → b ≡ y → c ≡ z → _≡_ {A = List ℤ} (a ∷ b ∷ c ∷ []) (x ∷ y ∷ z ∷ [])
+same-three p q r = cc
 
 -- what stands up to their end
 pub sets-filled : (xs l : List ℤ) (place : ℕ) → place + length xs ≤ length l → take (place + length xs) (sets l place xs) ≡ take place l ++ xs
@@ -66,23 +69,17 @@ at-most x h = natAbs-≤ x greatest-size .0 h .1
 
 -- a row's input, with the outstanding in millionths
 pub record RowInMillionths (n : ℕ) (ratios : List Sums) (i : ℕ) (observed : ℤ) : Type 0 where
-  pub first : 1 ≤ i
-  pub last : i ≤ n
-  pub most : n ≤ most-accident-years
+  pub row : RowRight n ratios i
   pub observed-nonneg : pos 0 ≤ℤ observed
   pub observed-most : observed ≤ℤ greatest-figure
-  pub year : (j : ℕ) → j + 1 < n → SumsRight (sums-at ratios j)
 
 -- the same with the outstanding in whole units
 module _ {n : ℕ} {ratios : List Sums} {i : ℕ} {units : ℤ} (ok : RowInput n ratios i units) where
   pub in-millionths : RowInMillionths n ratios i (units *ℤ one-unit)
   in-millionths = record {
-    first = ok .first;
-    last = ok .last;
-    most = ok .most;
+    row = ok .row;
     observed-nonneg = *ℤ-nonneg units one-unit (ok .observed-nonneg) (leZ-yes tt);
     observed-most = ≤ℤ-by (con units :* con one-unit) (con greatest-figure) (omega (arith, integers, ok .observed-nonneg, ok .observed-most));
-    year = ok .year;
   }
 
   pub units-small : natAbs units ≤ natAbs greatest-outstanding
@@ -128,11 +125,11 @@ module _ {n : ℕ} {ratios : List Sums} {i : ℕ} {observed : ℤ} (ok : RowInMi
       year-input = record {
         outstanding-nonneg = s .outstanding-nonneg;
         outstanding-most = s .outstanding-most;
-        sums-right = ok .year (n - i + j) (omega (arith, ok .last));
+        sums-right = ok .row .year (n - i + j) (omega (arith, ok .row .last));
       }
 
       few : j + 2 ≤ most-accident-years
-      few = omega (arith, ok .last, ok .most)
+      few = omega (arith, ok .row .last, ok .row .most)
 
       -- the year at hand
       abbrev next : meaning.Movement
@@ -218,17 +215,14 @@ module _ {n : ℕ} {ratios : List Sums} {i : ℕ} {observed : ℤ} (ok : RowInMi
 
     pub row-written : i ≤ j + 1 → take (start + 3 * (i - 1)) after ≡ take start before ++ row-figures n ratios i observed (i - 1)
     row-written h =
-        let e : j ≡ i - 1 = omega (arith, s .asked .within, ok .first) in
+        let e : j ≡ i - 1 = omega (arith, s .asked .within, ok .row .first) in
         subst (λ (x : ℕ). take (start + 3 * x) after ≡ take start before ++ row-figures n ratios i observed x) e
         (ap (λ (x : ℕ). take x after) (sym (s .place-is)) ∙ s .written)
 
     pub row-summed : i ≤ j + 1 → (paid ∷ incurred ∷ outstanding ∷ []) ≡ row-reserves n ratios i observed
     unfolding row-reserves
     row-summed h =
-        let e : j ≡ i - 1 = omega (arith, s .asked .within, ok .first) in
+        let e : j ≡ i - 1 = omega (arith, s .asked .within, ok .row .first) in
         subst (λ (x : ℕ). (paid ∷ incurred ∷ outstanding ∷ [])
         ≡ (row-payments n ratios i observed x ∷ (observed +ℤ row-adjustments n ratios i observed x) ∷ outstanding-after ratios (n - i) observed x ∷ [])) e
-        (three (s .paid-is) (s .incurred-is) (s .outstanding-is))
-      where
-        three : {a b c x y z : ℤ} → a ≡ x → b ≡ y → c ≡ z → _≡_ {A = List ℤ} (a ∷ b ∷ c ∷ []) (x ∷ y ∷ z ∷ [])
-        three p q r = cc
+        (same-three (s .paid-is) (s .incurred-is) (s .outstanding-is))

@@ -58,12 +58,9 @@ module _ {n : ℕ} {ratios : List Sums} {outstandings : List ℤ} where
 
     pub row-input : RowInput n ratios (r + 1) units
     row-input = record {
-      first = omega arith;
-      last = omega arith;
-      most = ok .most;
+      row = record { first = omega arith; last = omega arith; most = ok .most; year = ok .year };
       observed-nonneg = ok .outstanding r more .0;
       observed-most = ok .outstanding r more .1;
-      year = ok .year;
     }
 
     -- by the definitions of all rows

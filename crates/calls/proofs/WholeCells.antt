@@ -33,12 +33,9 @@ module _ {n : ℕ} {ratios : List Sums} {outstandings : List ℤ} {i k : ℕ} (a
 
   pub row-of-cell : RowInput n ratios i (getD outstandings (i - 1) (pos 0))
   row-of-cell = record {
-    first = omega (arith, a .first);
-    last = a .last;
-    most = a .readable .most;
+    row = record { first = omega (arith, a .first); last = a .last; most = a .readable .most; year = a .readable .year };
     observed-nonneg = a .readable .outstanding (i - 1) (omega (arith, a .first, a .last)) .0;
     observed-most = a .readable .outstanding (i - 1) (omega (arith, a .first, a .last)) .1;
-    year = a .readable .year;
   }
 
   pub in-units : getD outstandings (i - 1) (pos 0) *ℤ one-unit ≡ observed-of n ratios outstandings i

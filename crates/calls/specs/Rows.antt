@@ -1,5 +1,5 @@
 -- The projection as the code makes it, row by row from the sums and outstandings that were read: what the inner functions ask and answer.
--- That it is document 01's is the law `as-in-the-triangle` in proofs/OfTriangle.antt.
+-- That it is document 01's projection of the triangle is shown in proofs/OfTriangle.antt.
 use mathlib.Core.Path.{_≡_}
 use mathlib.Core.List.{List, [], _∷_, _++_}
 use Prim.Native.Nat.{ℕ, zero, suc, _+_, _*_, _-_, _≤_, _<_}
@@ -75,14 +75,18 @@ module _ (n : ℕ) (ratios : List Sums) (outstandings : List ℤ) where
 
 -- ---- What the code is asked
 
--- an accident year with its last observed outstanding, in whole units, and ratios as questions 1 to 8 leave them
-pub record RowInput (n : ℕ) (ratios : List Sums) (i : ℕ) (observed : ℤ) : Type 0 where
+-- an accident year, and ratios as questions 1 to 8 leave them
+pub record RowRight (n : ℕ) (ratios : List Sums) (i : ℕ) : Type 0 where
   pub first : 1 ≤ i
   pub last : i ≤ n
   pub most : n ≤ most-accident-years
+  pub year : (j : ℕ) → j + 1 < n → SumsRight (sums-at ratios j)
+
+-- with the accident year's last observed outstanding, in whole units
+pub record RowInput (n : ℕ) (ratios : List Sums) (i : ℕ) (observed : ℤ) : Type 0 where
+  pub row : RowRight n ratios i
   pub observed-nonneg : pos 0 ≤ℤ observed
   pub observed-most : observed ≤ℤ greatest-outstanding
-  pub year : (j : ℕ) → j + 1 < n → SumsRight (sums-at ratios j)
 
 -- what questions 1 to 8 leave
 pub record Projectable (n : ℕ) (ratios : List Sums) (outstandings : List ℤ) : Type 0 where

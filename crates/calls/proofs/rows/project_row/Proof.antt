@@ -41,7 +41,7 @@ input : (c : tie.After-from-units Inv-loop μ-loop) → let a = c .before .args 
 input c = rw (units-are c) (in-millionths (c .before .pre .0))
 
 few : (c : tie.After-next-year Inv-loop μ-loop) → turn c .before .loop .j < 32
-few c = omega (arith, start c .pre .0 .last, start c .pre .0 .most)
+few c = omega (arith, start c .pre .0 .row .last, start c .pre .0 .row .most)
 
 -- a year within the limit
 within : (c : tie.After-year Inv-loop μ-loop) → let y = c .before .before in
@@ -59,10 +59,10 @@ add-loop : tie.Need-add-loop Inv-loop μ-loop
 add-loop c = search needs
 
 sub-place : tie.Need-sub-place Inv-loop μ-loop
-sub-place c = c .before .before .before .pre .0 .last
+sub-place c = c .before .before .before .pre .0 .row .last
 
 add-place : tie.Need-add-place Inv-loop μ-loop
-add-place c = let a = c .before .before .before .pre .0 .last in let b = c .before .before .before .pre .0 .most in search needs
+add-place c = let a = c .before .before .before .pre .0 .row .last in let b = c .before .before .before .pre .0 .row .most in search needs
 
 mul-next-year : tie.Need-mul-next-year Inv-loop μ-loop
 mul-next-year c = search needs
