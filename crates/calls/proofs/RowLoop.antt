@@ -27,7 +27,7 @@ use Rattle.share.specs.Share.{greatest-size}
 use Rattle.triangle.specs.declared.ratios.Sums.{Sums}
 use Rattle.projection.specs.declared.year.Movement.{Movement}
 use Rattle.projection.specs.declared.year.ProjectedYear.the-variants.{Within, TooLarge}
-use Rattle.projection.specs.Year.{SumsRight, YearInput, answered, movement-of}
+use Rattle.projection.specs.Year.{YearInput, answered, movement-of}
 use Rattle.projection.proofs.Years.{within-is, FiguresSmall, within-small, too-large-year}
 use Rattle.calls.specs.Rows.{sums-at, outstanding-after, projected-year, row-question, row-verdict, row-figures, row-payments, row-adjustments, row-reserves, RowRight, RowInput, Addable}
 

@@ -1,9 +1,8 @@
 -- The list of increments keeps its length, and each turn leaves one place less.
 use mathlib.Core.Path.{_≡_}
 use Prim.Native.Nat.{_-_}
-use lib.ListN.{length, length-set}
+use lib.ListN.{length}
 use borrow.Author.Needs.{needs}
-use native.Mathlib.Omega.{arith}
 use Rattle.runner.proofs.example_1.differences.Statement.{statement}
 use Rattle.runner.proofs.example_1.differences.Tie as tie
 

@@ -1,7 +1,6 @@
 -- Nothing has to hold from turn to turn, and each turn leaves one accident year less.
 use Prim.Native.Nat.{_-_}
 use borrow.Author.Needs.{needs}
-use native.Mathlib.Omega.{arith}
 use Rattle.runner.proofs.example_1.print_years.Statement.{statement}
 use Rattle.runner.proofs.example_1.print_years.Tie as tie
 
