@@ -1,6 +1,6 @@
 -- One projected year: its two shares, its outstanding, and whether they are within the limit of question 9.
 use mathlib.Core.Path.{_≡_, refl, sym, ap, ap₂, _∙_, subst}
-use mathlib.Core.Bool.{Bool, true, false, true≢false}
+use mathlib.Core.Bool.{Bool, true, false}
 use Prim.Native.Nat.{_≤_}
 use native.Mathlib.Omega.{arith}
 use lib.Dec.{lit<}
@@ -30,24 +30,15 @@ use Rattle.projection.specs.declared.year.ProjectedYear.{ProjectedYear}
 use Rattle.projection.specs.declared.year.ProjectedYear.the-variants.{Within, TooLarge}
 use Rattle.projection.specs.Year.{YearInput, answered, movement-of}
 
-module _ {r : ℤ} {s : Sums} (y : YearInput r s) where
-  pub payment-input : ShareInput r (s .P) (s .D)
-  payment-input = record {
-    outstanding-nonneg = y .outstanding-nonneg;
-    outstanding-most = y .outstanding-most;
-    part-size = y .sums-right .payments-size;
-    exposure-positive = y .sums-right .exposure-positive;
-    exposure-most = y .sums-right .exposure-most;
-  }
-
-  pub adjustment-input : ShareInput r (s .Q) (s .D)
-  adjustment-input = record {
-    outstanding-nonneg = y .outstanding-nonneg;
-    outstanding-most = y .outstanding-most;
-    part-size = y .sums-right .adjustments-size;
-    exposure-positive = y .sums-right .exposure-positive;
-    exposure-most = y .sums-right .exposure-most;
-  }
+-- P or Q, with the outstanding and D, as a share is asked of
+pub share-input : {r : ℤ} {s : Sums} → YearInput r s → (part : ℤ) → natAbs part ≤ greatest-sum → ShareInput r part (s .D)
+share-input y part h = record {
+  outstanding-nonneg = y .outstanding-nonneg;
+  outstanding-most = y .outstanding-most;
+  part-size = h;
+  exposure-positive = y .sums-right .exposure-positive;
+  exposure-most = y .sums-right .exposure-most;
+}
 
 -- ---- The answer
 
@@ -67,13 +58,24 @@ within : ProjectedYear → Bool
 within (Within m) = true
 within TooLarge = false
 
-pub within-is : (x : Movement) (m : code.Movement) → Within m ≡ answered x → (m ≡ movement-of x) × (figures-in-range x ≡ true)
-unfolding movement within
-within-is x m e = go (figures-in-range x) refl
+-- which case it is says whether all figures are within the limit
+case-is : (x : Movement) → figures-in-range x ≡ within (answered x)
+unfolding answered within
+case-is x = go (figures-in-range x) refl
   where
-    go : (b : Bool) → figures-in-range x ≡ b → (m ≡ movement-of x) × (figures-in-range x ≡ true)
-    go true f = (ap movement (e ∙ sym (answered-within x f)), f)
-    go false f = absurd (true≢false (ap within (e ∙ sym (answered-too-large x f))))
+    go : (b : Bool) → figures-in-range x ≡ b → figures-in-range x ≡ within (answered x)
+    go true e = rw e
+    go false e = rw e
+
+pub too-large-year : (x : Movement) → TooLarge ≡ answered x → figures-in-range x ≡ false
+unfolding within
+too-large-year x e = case-is x ∙ sym (ap within e)
+
+pub within-is : (x : Movement) (m : code.Movement) → Within m ≡ answered x → (m ≡ movement-of x) × (figures-in-range x ≡ true)
+unfolding answered movement within
+within-is x m e =
+    let all : figures-in-range x ≡ true = case-is x ∙ sym (ap within e) in
+    (ap movement e ∙ rw all, all)
 
 -- its figures as naturals
 pub record FiguresSmall (m : code.Movement) : Type 0 where
@@ -90,14 +92,6 @@ within-small x m e = subst FiguresSmall (sym (within-is x m e .0)) (small (figur
       adjustment = omega (arith, integers, f .adjustment);
       outstanding = omega (arith, integers, f .outstanding);
     }
-
-pub too-large-year : (x : Movement) → TooLarge ≡ answered x → figures-in-range x ≡ false
-unfolding within
-too-large-year x e = go (figures-in-range x) refl
-  where
-    go : (b : Bool) → figures-in-range x ≡ b → figures-in-range x ≡ false
-    go true f = absurd (true≢false (sym (ap within (e ∙ sym (answered-within x f)))))
-    go false f = f
 
 -- the sizes of three figures are within the limit, or one is not
 in-range : (a b c : ℤ) → leZ (size a) greatest-figure ≡ true → leZ (size b) greatest-figure ≡ true → leZ (size c) greatest-figure ≡ true
@@ -180,6 +174,10 @@ module _ {r : ℤ} {s : Sums} (y : YearInput r s) where
 
 -- ---- Within 64 bits
 
+-- P or Q
+pub part-fits : (part : ℤ) → natAbs part ≤ greatest-sum → SFits w64 part
+part-fits part h = fits-natAbs w64 part greatest-sum h (lit< tt)
+
 -- an outstanding, its year's payment and adjustment, and what they make
 pub record NumbersFit (r x z : ℤ) : Type 0 where
   pub outstanding : SFits w64 r
@@ -189,12 +187,6 @@ pub record NumbersFit (r x z : ℤ) : Type 0 where
   pub next : SFits w64 (r -ℤ x +ℤ z)
 
 module _ {r : ℤ} {s : Sums} (y : YearInput r s) where
-  pub payments-fit : SFits w64 (s .P)
-  payments-fit = fits-natAbs w64 (s .P) greatest-sum (y .sums-right .payments-size) (lit< tt)
-
-  pub adjustments-fit : SFits w64 (s .Q)
-  adjustments-fit = fits-natAbs w64 (s .Q) greatest-sum (y .sums-right .adjustments-size) (lit< tt)
-
   pub exposure-fits : SFits w64 (s .D)
   exposure-fits = fits-by w64 (con (s .D)) (omega (arith, integers, y .sums-right .exposure-positive, y .sums-right .exposure-most))
 

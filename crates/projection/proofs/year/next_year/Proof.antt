@@ -5,7 +5,7 @@ use mir.Facts.{toZ-ofZ}
 use Rattle.method.specs.ProjectedYear.{share}
 use Rattle.share.specs.Share as shares
 use Rattle.share.specs.declared.Share.the-variants.{Rounded}
-use Rattle.projection.proofs.Years.{payment-input, adjustment-input, payments-fit, adjustments-fit, exposure-fits, payment-too-large, adjustment-too-large, outstanding-too-large, all-within, NumbersFit, numbers-fit}
+use Rattle.projection.proofs.Years.{share-input, part-fits, exposure-fits, payment-too-large, adjustment-too-large, outstanding-too-large, all-within, NumbersFit, numbers-fit}
 use Rattle.projection.proofs.year.next_year.Statement.{statement}
 use Rattle.projection.proofs.year.next_year.Tie as tie
 
@@ -16,12 +16,16 @@ began c = c .before .before .before
 
 paid : (c : tie.After-rounded-share) → let a = began c .args in
     c .rounded-share .result ≡ shares.answered (share (a .outstanding .0) (a .sums .payments) (a .sums .exposure))
-paid c = let y = began c .pre in simp (toZ-ofZ (payments-fit y), toZ-ofZ (exposure-fits y)) at (c .rounded-share .ensures)
+paid c =
+    let a = began c .args in
+    let y = began c .pre in
+    simp (toZ-ofZ (part-fits (a .sums .payments) (y .sums-right .payments-size)), toZ-ofZ (exposure-fits y)) at (c .rounded-share .ensures)
 
 rounded-share-requires : tie.Need-rounded-share-requires
 rounded-share-requires c κs =
+    let a = c .before .before .args in
     let y = c .before .before .pre in
-    simp (toZ-ofZ (payments-fit y), toZ-ofZ (exposure-fits y)) (payment-input y)
+    simp (toZ-ofZ (part-fits (a .sums .payments) (y .sums-right .payments-size)), toZ-ofZ (exposure-fits y)) (share-input y _ (y .sums-right .payments-size))
 
 enum-known-paid : tie.Need-enum-known-paid
 enum-known-paid c = search needs
@@ -45,13 +49,15 @@ with-payment c = c .before .before .before
 adjusted : (c : tie.After-rounded-share2) → let a = began (with-payment c .before .before) .args in
     c .rounded-share2 .result ≡ shares.answered (share (a .outstanding .0) (a .sums .adjustments) (a .sums .exposure))
 adjusted c =
+    let a = began (with-payment c .before .before) .args in
     let y = began (with-payment c .before .before) .pre in
-    simp (toZ-ofZ (adjustments-fit y), toZ-ofZ (exposure-fits y)) at (c .rounded-share2 .ensures)
+    simp (toZ-ofZ (part-fits (a .sums .adjustments) (y .sums-right .adjustments-size)), toZ-ofZ (exposure-fits y)) at (c .rounded-share2 .ensures)
 
 rounded-share-requires-2 : tie.Need-rounded-share-requires-2
 rounded-share-requires-2 c κs =
+    let a = began (c .before .before .before .before) .args in
     let y = began (c .before .before .before .before) .pre in
-    simp (toZ-ofZ (adjustments-fit y), toZ-ofZ (exposure-fits y)) (adjustment-input y)
+    simp (toZ-ofZ (part-fits (a .sums .adjustments) (y .sums-right .adjustments-size)), toZ-ofZ (exposure-fits y)) (share-input y _ (y .sums-right .adjustments-size))
 
 enum-known-adjusted : tie.Need-enum-known-adjusted
 enum-known-adjusted c = search needs
@@ -102,7 +108,7 @@ returns-4 : tie.Need-returns-4
 returns-4 c =
     let a = rounded (c .before) in
     let f = fits a in
-    rw (toZ-ofZ (f .outstanding), toZ-ofZ (f .payment), toZ-ofZ (f .adjustment), toZ-ofZ (f .less-payment), toZ-ofZ (f .next))
+    simp (toZ-ofZ (f .outstanding), toZ-ofZ (f .payment), toZ-ofZ (f .adjustment), toZ-ofZ (f .less-payment), toZ-ofZ (f .next))
     (all-within (start a .pre) (payment-rounded (with-payment (a .before .before))) (adjustment-rounded a)
     (simp (toZ-ofZ (f .outstanding), toZ-ofZ (f .payment), toZ-ofZ (f .adjustment), toZ-ofZ (f .less-payment), toZ-ofZ (f .next)) at (c .if1 .left)))
 
