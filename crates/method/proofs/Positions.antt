@@ -8,8 +8,8 @@ use native.Mathlib.Decide.{decLe}
 use native.Mathlib.Omega.{arith}
 use lib.IntN.{ℤ, pos}
 use lib.ListN.{getD}
-use Rattle.method.specs.Triangle.{amounts-length, weights-length, future-length, cells-before, cell, entry}
-use Rattle.method.specs.Claim.{unseen-before, Projected}
+use Rattle.method.specs.Triangle.{amounts-length, weights-length, cells-before, cell, entry}
+use Rattle.method.specs.Claim.{unseen-before}
 
 -- ---- Seen cells; row and cell are counted from 0 by r and j, as a loop does
 
@@ -89,8 +89,3 @@ unseen-cells zero = twice-zero
 unseen-cells (suc m) =
     let e : suc m - 1 ≡ m = omega arith in
     omega (arith, twice-unseen-before (suc m), ap (λ (x : ℕ). suc m * x) e, mul-suc (suc m) m)
-
--- the figures of an unseen cell are inside the future list
-pub figure-inside : (n which i k : ℕ) → which < 3 → Projected n i k → 3 * (unseen-before i + (i + k - suc n)) + which < future-length n
-figure-inside n which i k h p =
-    omega (arith, unseen-before-mono (suc i) (suc n) (omega (arith, p .row)), unseen-before-more i, unseen-cells n, p .row, p .after, p .year)

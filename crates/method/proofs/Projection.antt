@@ -1,25 +1,22 @@
 -- The projected outstandings: how an account of a row goes on, that they are not negative, and how the reserves and the closing meet.
-use mathlib.Core.Path.{_≡_, refl, sym, ap, _∙_, subst}
+use mathlib.Core.Path.{_≡_, refl, sym, ap, _∙_}
 use Prim.Native.Nat.{ℕ, zero, suc, _+_, _-_, _≤_, _<_}
 use native.Mathlib.Nat.{add-zero}
 use native.Mathlib.Decide.{decLe}
 use native.Mathlib.Omega.{arith}
 use lib.IntN.{ℤ, pos, _+ℤ_, _-ℤ_, _*ℤ_, +ℤ-idl, *ℤ-zero}
-use lib.Signed.{_≤ℤ_, _<ℤ_, leZ-yes}
-use Rattle.integers.specs.Fraction.{size}
-use Rattle.integers.proofs.RingSolver.{con, _:+_, _:-_, _:*_, _:=_, ring}
-use Rattle.integers.proofs.LinearFacts.{integers, ≤ℤ-by}
-use Rattle.integers.proofs.Order.{*ℤ-nonneg, size-of-nonneg}
+use lib.Signed.{_≤ℤ_, _<ℤ_}
+use Rattle.integers.proofs.RingSolver.{con, _:+_, _:-_, _:=_, ring}
 use Rattle.integers.proofs.Rounding.{Nearest, half-up-nearest}
 use Rattle.integers.proofs.Nearness.{balance-nonneg, balance-zero}
-use Rattle.method.specs.Limits.{one-unit, greatest-outstanding, greatest-figure}
+use Rattle.method.specs.Limits.{one-unit}
 use Rattle.method.specs.Counting.{up-to, sum-to}
 use Rattle.method.specs.Triangle.{Triangle, n, w}
 use Rattle.method.specs.Outstandings.{Sums, R, sums}
 use Rattle.method.specs.ProjectedYear.{share, next-year, account, O, movement, last-observed, year-before, paid-reserve, incurred-reserve, closing}
 use Rattle.method.proofs.Tests.{leb-true, leb-false}
-use Rattle.method.proofs.QuestionFacts.{Observed, Accepted}
-use Rattle.method.proofs.SumBounds.{sums-in-range, factor-is}
+use Rattle.method.proofs.QuestionFacts.{Observed}
+use Rattle.method.proofs.SumBounds.{factor-is}
 
 -- ---- One year
 
@@ -102,28 +99,6 @@ incurred-less-paid-is-closing t i p h =
 -- ---- Where every exposure is above 0
 
 module _ (t : Triangle) (ok : Observed t) (exposure : (k : ℕ) → 1 ≤ k → k < n t → pos 0 <ℤ sums t k .D) where
-  -- an outstanding from the last observed year on is not negative
-  pub O-nonneg : (i k : ℕ) → 1 ≤ i → i ≤ n t → n t < i + k → k ≤ n t → pos 0 ≤ℤ O t i k
-  unfolding movement
-  O-nonneg i zero p q h l = absurd (omega arith)
-  O-nonneg i (suc k) p q h l = go (λ h. O-nonneg i k p q h (omega arith)) (decLe (i + suc k) (n t + 1))
-    where
-      scaled : (x : ℤ) → pos 0 ≤ℤ x → pos 0 ≤ℤ (x *ℤ one-unit)
-      scaled x h = *ℤ-nonneg x one-unit h (leZ-yes tt)
-
-      movement-nonneg : (k : ℕ) → pos 0 <ℤ sums t k .D → pos 0 ≤ℤ O t i k → pos 0 ≤ℤ (sums t k .D -ℤ sums t k .P +ℤ sums t k .Q)
-          → pos 0 ≤ℤ movement t i k .outstanding
-      movement-nonneg k = next-nonneg (O t i k) (sums t k)
-
-      go : (n t < i + k → pos 0 ≤ℤ O t i k) → Dec (i + suc k ≤ n t + 1) → pos 0 ≤ℤ O t i (suc k)
-      go before (yes s) =
-          rw (O-observed t i (suc k) s)
-          (scaled (R t i (suc k)) (ok .outstanding i (suc k) p (omega arith) s (omega (arith, ok .cut .most)) .0))
-      go before (no s) =
-          let a : n t < i + k = omega arith in
-          let b : 1 ≤ k = omega arith in
-          rw (O-projected t i k a) (movement-nonneg k (exposure k b l) (before a) (sums-in-range t ok k b l .factor-nonneg))
-
   -- where the oldest year's last outstanding is 0, so is the last outstanding factor
   last-factor-zero : (k : ℕ) → n t ≡ suc k → R t 1 (n t) ≡ pos 0 → sums t k .D -ℤ sums t k .P +ℤ sums t k .Q ≡ pos 0
   unfolding up-to
@@ -148,30 +123,3 @@ module _ (t : Triangle) (ok : Observed t) (exposure : (k : ℕ) → 1 ≤ k → 
       go (no l) (suc k) e =
           ap (λ (x : ℕ). O t i x) e ∙ O-projected t i k (omega arith)
           ∙ next-zero (O t i k) (sums t k) (exposure k (omega (arith, ok .years .fewest)) (omega arith)) (last-factor-zero k e z)
-
--- ---- Where the triangle is accepted
-
-module _ (t : Triangle) (ok : Accepted t) where
-  -- an outstanding from the last observed year on is from 0 to the limit of question 9
-  pub O-in-range : (i k : ℕ) → 1 ≤ i → i ≤ n t → n t < i + k → k ≤ n t → (pos 0 ≤ℤ O t i k) × (O t i k ≤ℤ greatest-figure)
-  O-in-range i zero p q h l = absurd (omega arith)
-  O-in-range i (suc k) p q h l = (nonneg, go (decLe (i + suc k) (n t + 1)))
-    where
-      nonneg : pos 0 ≤ℤ O t i (suc k)
-      nonneg = O-nonneg t (ok .observed) (ok .exposure) i (suc k) p q h l
-
-      scaled : (x : ℤ) → x ≤ℤ greatest-outstanding → (x *ℤ one-unit) ≤ℤ greatest-figure
-      scaled x h = ≤ℤ-by (con x :* con one-unit) (con greatest-figure) (omega (arith, integers))
-
-      within : (x : ℤ) → pos 0 ≤ℤ x → size x ≤ℤ greatest-figure → x ≤ℤ greatest-figure
-      within x a b = subst (λ (z : ℤ). z ≤ℤ greatest-figure) (size-of-nonneg x a) b
-
-      go : Dec (i + suc k ≤ n t + 1) → O t i (suc k) ≤ℤ greatest-figure
-      go (yes s) =
-          rw (O-observed t i (suc k) s)
-          (scaled (R t i (suc k)) (ok .observed .outstanding i (suc k) p (omega arith) s (omega (arith, ok .observed .cut .most)) .1))
-      go (no s) =
-          let a : n t < i + k = omega arith in
-          let e : O t i (suc k) ≡ movement t i k .outstanding = O-projected t i k a in
-          let small : size (movement t i k .outstanding) ≤ℤ greatest-figure = ok .figures i k (record { row = q; after = a; year = l }) .outstanding in
-          within (O t i (suc k)) nonneg (subst (λ (x : ℤ). size x ≤ℤ greatest-figure) (sym e) small)

@@ -231,11 +231,6 @@ observed-triangle t right lengths e =
       unweighted = weights-allowed t q₇;
     }
 
--- what was asked first was accepted too
-pub inputs-accepted : (t : Triangle) (right : Bool) → questions t right ≡ accepted → input-questions t right ≡ accepted
-unfolding questions observed-questions
-inputs-accepted t right e = then-accepted _ _ (then-accepted _ _ e .0) .0
-
 pub accepted-triangle : (t : Triangle) (right : Bool) → (right ≡ true → InputLengths t) → questions t right ≡ accepted → Accepted t
 unfolding questions observed-questions
 accepted-triangle t right lengths e =

@@ -1,11 +1,11 @@
 -- What document 01 says in other words than the definitions, proved of the definitions.
 use mathlib.Core.Path.{_≡_, refl, sym, ap, ap₂, _∙_, subst}
-use mathlib.Core.List.{[], _∷_}
+use mathlib.Core.List.{List, [], _∷_}
 use Prim.Native.Nat.{ℕ, zero, suc, _+_, _-_, _≤_, _<_}
 use native.Mathlib.Decide.{decLe}
 use native.Mathlib.Omega.{arith}
-use lib.IntN.{ℤ, pos, negℤ, _+ℤ_, _-ℤ_, _*ℤ_, +ℤ-idr}
-use lib.ListN.{length, List·getD-eq-default}
+use lib.IntN.{ℤ, pos, negℤ, _+ℤ_, _-ℤ_, _*ℤ_, natAbs, +ℤ-idr}
+use lib.ListN.{length, getD, take, drop, List·getD-eq-default}
 use lib.Signed.{_≤ℤ_, _<ℤ_, leZ-yes, ltZ-yes}
 use Rattle.integers.specs.Fraction.{Fraction, _over_, _⊕_, _⊗_, _≈_}
 use Rattle.integers.specs.HalfUp.{GreatestNotAbove}
@@ -14,11 +14,14 @@ use Rattle.integers.proofs.Order.{*ℤ-positive}
 use Rattle.integers.proofs.Rounding.{half-up-greatest}
 use Rattle.method.specs.Limits.{one-unit, greatest-outstanding}
 use Rattle.method.specs.Counting.{up-to}
-use Rattle.method.specs.Triangle.{Triangle, n, Y, S, T, entry, openings-length}
+use Rattle.method.specs.Triangle.{Triangle, n, Y, S, T, amounts-length, openings-length, cells-before, cell, entry}
 use Rattle.method.specs.Outstandings.{Sums, R}
 use Rattle.method.specs.ProjectedYear.{share, closing, paid-reserve, incurred-reserve, reserves-row}
 use Rattle.method.specs.Unrounded.{unrounded-payment, unrounded-adjustment, unrounded-next, unrounded-paid, unrounded-incurred, paid-allowance, incurred-allowance}
+use Rattle.method.specs.Questions.{accepted}
+use Rattle.method.specs.Answers.{Amounts, named-list, row-verdict, row-of, row}
 use Rattle.method.proofs.QuestionFacts.{AmountRight, Observed}
+use Rattle.method.proofs.Rows.{part-length, part-holds, RowAccepted, row-accepted, named-length}
 use Rattle.method.proofs.Projection.{O-observed}
 
 -- ---- "The greatest whole number not above the exact share plus one half, also for negative shares"
@@ -121,3 +124,43 @@ unrounded-next-is u s h k = record {
   where
     uD : pos 0 <ℤ (u .denominator *ℤ s .D)
     uD = *ℤ-positive (u .denominator) (s .D) h k
+
+-- ---- "One accident year's seen figures are handed back as that stretch of the lent list"
+
+module _ (years : ℤ) (payment-list adjustment-list : List ℤ) (accident-year : ℤ) (e : row-verdict years payment-list adjustment-list accident-year ≡ accepted)
+    (named : Amounts) where
+  abbrev xs : List ℤ
+  xs = named-list payment-list adjustment-list named
+
+  facts : RowAccepted years payment-list adjustment-list accident-year
+  facts = row-accepted years payment-list adjustment-list accident-year e
+
+  long : length xs ≡ amounts-length (natAbs years)
+  long = named-length years payment-list adjustment-list accident-year facts named
+
+  -- the number of the row, counted from 0
+  abbrev r : ℕ
+  r = natAbs accident-year - 1
+
+  inside : r < natAbs years
+  inside = omega (arith, facts .first, facts .last)
+
+  row-is : row years payment-list adjustment-list accident-year named ≡ take (natAbs years - r) (drop (cells-before (natAbs years) r) xs)
+  unfolding row row-of
+  row-is =
+      let s : natAbs years + 1 - natAbs accident-year ≡ natAbs years - r = omega (arith, facts .first, facts .last) in
+      ap (row-of years payment-list adjustment-list accident-year xs) e ∙ ap (λ (x : ℕ). take x (drop (cells-before (natAbs years) r) xs)) s
+
+  -- it is as long as the accident year has seen cells, and holds their figures in order
+  pub row-length : length (row years payment-list adjustment-list accident-year named) ≡ natAbs years + 1 - natAbs accident-year
+  row-length =
+      let s : natAbs years - r ≡ natAbs years + 1 - natAbs accident-year = omega (arith, facts .first, facts .last) in
+      ap length row-is ∙ part-length (natAbs years) r xs inside long ∙ s
+
+  pub row-holds : (k : ℕ) → natAbs accident-year + suc k ≤ natAbs years + 1
+      → getD (row years payment-list adjustment-list accident-year named) k (pos 0) ≡ cell (natAbs years) xs (natAbs accident-year) (suc k)
+  row-holds k h =
+      let s : suc r ≡ natAbs accident-year = omega (arith, facts .first) in
+      ap (λ (ys : List ℤ). getD ys k (pos 0)) row-is
+      ∙ part-holds (natAbs years) r xs inside long k (omega (arith, facts .first))
+      ∙ ap (λ (x : ℕ). cell (natAbs years) xs x (suc k)) s

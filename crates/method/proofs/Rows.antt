@@ -1,5 +1,5 @@
--- A row handed back is as long as its accident year has seen cells, and holds their figures in order.
-use mathlib.Core.Path.{_≡_, refl, sym, ap, _∙_}
+-- One accident year's row: the part of its list that it is, and what the call that hands it back leaves when it accepts.
+use mathlib.Core.Path.{_≡_, refl, sym, _∙_}
 use mathlib.Core.List.{List}
 use Prim.Native.Nat.{ℕ, suc, _+_, _-_, _≤_, _<_}
 use native.Mathlib.Omega.{arith}
@@ -11,7 +11,7 @@ use lib.Signed.{_≤ℤ_}
 use Rattle.integers.proofs.LinearFacts.{integers}
 use Rattle.method.specs.Triangle.{amounts-length, cells-before, cell}
 use Rattle.method.specs.Questions.{accepted, nowhere, question-10, accident-year-in-range}
-use Rattle.method.specs.Answers.{Amounts, payments, adjustments, both-lengths-right, row-verdict, named-list, row-of, row}
+use Rattle.method.specs.Answers.{Amounts, payments, adjustments, both-lengths-right, row-verdict, named-list}
 use Rattle.method.proofs.Tests.{and-true, from-to-true, eqb-true}
 use Rattle.method.proofs.FirstRefusal.{ask-accepted, then-accepted}
 use Rattle.method.proofs.QuestionFacts.{YearsInRange, years-accepted, lengths-accepted}
@@ -29,7 +29,7 @@ module _ (m r : ℕ) (xs : List ℤ) (h : r < m) (long : length xs ≡ amounts-l
       ∙ getD-drop (cells-before m r) xs j (pos 0)
       ∙ sym (cell-at m xs r j)
 
--- ---- The row that the call answers
+-- ---- The call that hands a row back
 
 module _ (years : ℤ) (payment-list adjustment-list : List ℤ) (accident-year : ℤ) where
   pub record RowAccepted : Type 0 where
@@ -69,38 +69,3 @@ module _ (years : ℤ) (payment-list adjustment-list : List ℤ) (accident-year 
   unfolding named-list
   named-length facts payments = facts .payments-length
   named-length facts adjustments = facts .adjustments-length
-
-  module _ (e : row-verdict years payment-list adjustment-list accident-year ≡ accepted) (named : Amounts) where
-    xs : List ℤ
-    xs = named-list payment-list adjustment-list named
-
-    facts : RowAccepted
-    facts = row-accepted e
-
-    -- the number of the row, counted from 0
-    r : ℕ
-    r = natAbs accident-year - 1
-
-    row-is : row years payment-list adjustment-list accident-year named ≡ take (natAbs years - r) (drop (cells-before (natAbs years) r) xs)
-    unfolding row row-of xs r
-    row-is =
-        let s : natAbs years + 1 - natAbs accident-year ≡ natAbs years - r = omega (arith, facts .first, facts .last) in
-        ap (row-of years payment-list adjustment-list accident-year xs) e ∙ ap (λ (x : ℕ). take x (drop (cells-before (natAbs years) r) xs)) s
-
-    pub row-length : length (row years payment-list adjustment-list accident-year named) ≡ natAbs years + 1 - natAbs accident-year
-    unfolding xs r
-    row-length =
-        let l : r < natAbs years = omega (arith, facts .first, facts .last) in
-        let s : natAbs years - r ≡ natAbs years + 1 - natAbs accident-year = omega (arith, facts .first, facts .last) in
-        ap length row-is ∙ part-length (natAbs years) r xs l (named-length facts named) ∙ s
-
-    pub row-holds : (k : ℕ) → natAbs accident-year + suc k ≤ natAbs years + 1
-        → getD (row years payment-list adjustment-list accident-year named) k (pos 0)
-        ≡ cell (natAbs years) (named-list payment-list adjustment-list named) (natAbs accident-year) (suc k)
-    unfolding xs r
-    row-holds k h =
-        let l : r < natAbs years = omega (arith, facts .first, facts .last) in
-        let s : suc r ≡ natAbs accident-year = omega (arith, facts .first) in
-        ap (λ (ys : List ℤ). getD ys k (pos 0)) row-is
-        ∙ part-holds (natAbs years) r xs l (named-length facts named) k (omega (arith, facts .first))
-        ∙ ap (λ (x : ℕ). cell (natAbs years) xs x (suc k)) s

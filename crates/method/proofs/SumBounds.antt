@@ -1,6 +1,6 @@
 -- How large the three sums of a development year can be, for any n, where questions 1 to 7 accept.
 use mathlib.Core.Path.{_≡_, sym, ap, _∙_, subst}
-use Prim.Native.Nat.{ℕ, suc, _+_, _*_, _-_, _≤_, _<_}
+use Prim.Native.Nat.{ℕ, suc, _+_, _-_, _≤_, _<_}
 use native.Mathlib.Nat.{le-trans, mul-le-mul-right}
 use native.Mathlib.Decide.{decLe}
 use native.Mathlib.Omega.{arith}
@@ -20,7 +20,6 @@ use Rattle.method.proofs.Sums.{sum-nonneg, sum-natAbs, sums-combined}
 pub record SumsInRange (s : Sums) : Type 0 where
   pub P-size : natAbs (s .P) ≤ greatest-sum
   pub Q-size : natAbs (s .Q) ≤ greatest-sum
-  pub D-nonneg : pos 0 ≤ℤ s .D
   pub D-most : s .D ≤ℤ pos greatest-sum
   pub factor-nonneg : pos 0 ≤ℤ (s .D -ℤ s .P +ℤ s .Q)
 
@@ -67,10 +66,9 @@ module _ (t : Triangle) (ok : Observed t) where
     adjustments-size = few-terms (n t - k) (λ i. w t i k *ℤ T t i (suc k)) few
         (λ i a b. weighted-amount i k (T t i (suc k)) a q (omega arith) (ok .adjustment i (suc k) a (omega arith) (omega arith) .in-range))
 
-    -- the outstandings of year k, or of year k + 1
-    outstandings-nonneg : (m : ℕ) → k ≤ m → m ≤ suc k → pos 0 ≤ℤ sum-to (n t - k) (λ i. w t i k *ℤ R t i m)
-    outstandings-nonneg m a b = sum-nonneg (n t - k) (λ i. w t i k *ℤ R t i m)
-        (λ i c d. weighted-outstanding i k m c q (omega arith) a (omega arith) .0)
+    next-outstandings-nonneg : pos 0 ≤ℤ sum-to (n t - k) (λ i. w t i k *ℤ R t i (suc k))
+    next-outstandings-nonneg = sum-nonneg (n t - k) (λ i. w t i k *ℤ R t i (suc k))
+        (λ i a b. weighted-outstanding i k (suc k) a q (omega arith) (omega arith) (omega arith) .0)
 
     exposure-size : natAbs (sum-to (n t - k) (λ i. w t i k *ℤ R t i k)) ≤ greatest-sum
     exposure-size = few-terms (n t - k) (λ i. w t i k *ℤ R t i k) few (λ i a b. weighted-outstanding i k k a q (omega arith) (omega arith) (omega arith) .1)
@@ -80,7 +78,6 @@ module _ (t : Triangle) (ok : Observed t) where
     sums-in-range = record {
       P-size = payments-size;
       Q-size = adjustments-size;
-      D-nonneg = outstandings-nonneg k (omega arith) (omega arith);
       D-most = natAbs-≤ (sum-to (n t - k) (λ i. w t i k *ℤ R t i k)) greatest-sum .0 exposure-size .1;
-      factor-nonneg = subst (λ (x : ℤ). pos 0 ≤ℤ x) (sym (factor-is t k)) (outstandings-nonneg (suc k) (omega arith) (omega arith));
+      factor-nonneg = subst (λ (x : ℤ). pos 0 ≤ℤ x) (sym (factor-is t k)) next-outstandings-nonneg;
     }

@@ -1,14 +1,12 @@
--- The whole answer of the call that fills both lists, accepted and refused. Either way each list is filled to its actual length.
+-- The whole answer of the call that fills both lists, accepted and refused.
 use mathlib.Core.Path.{_≡_, refl, sym, ap, _∙_}
 use Prim.Native.Nat.{ℕ}
 use lib.IntN.{pos}
-use lib.ListN.{length, replicate, length-replicate}
+use lib.ListN.{replicate}
 use Rattle.method.specs.Triangle.{Triangle}
 use Rattle.method.specs.ProjectedYear.{future, reserves}
 use Rattle.method.specs.Questions.{Place, Verdict, accepted, refused, questions, lengths-right}
 use Rattle.method.specs.Answers.{filled, answer}
-use Rattle.method.proofs.QuestionFacts.{AllLengths, lengths-right-true, lists-right, inputs-accepted}
-use Rattle.method.proofs.Lists.{future-has-length, reserves-has-length}
 
 pub filled-verdict : (t : Triangle) (future-room reserves-room : ℕ) (v : Verdict) → filled t future-room reserves-room v .verdict ≡ v
 unfolding filled
@@ -28,14 +26,3 @@ module _ (t : Triangle) (f r : ℕ) where
       → answer t f r ≡ record { verdict = refused question p; future = replicate f (pos 0); reserves = replicate r (pos 0) }
   unfolding answer filled
   refused-answer question p e = ap (filled t f r) e
-
-  filled-lengths : (v : Verdict) → questions t (lengths-right t f r) ≡ v → (length (filled t f r v .future) ≡ f) × (length (filled t f r v .reserves) ≡ r)
-  unfolding filled
-  filled-lengths accepted e =
-      let l : AllLengths t f r = lengths-right-true t f r (lists-right t (lengths-right t f r) (inputs-accepted t (lengths-right t f r) e)) in
-      (future-has-length t ∙ sym (l .future), reserves-has-length t ∙ sym (l .reserves))
-  filled-lengths (refused question p) e = (length-replicate f (pos 0), length-replicate r (pos 0))
-
-  pub answer-fills : (length (answer t f r .future) ≡ f) × (length (answer t f r .reserves) ≡ r)
-  unfolding answer
-  answer-fills = filled-lengths (questions t (lengths-right t f r)) refl

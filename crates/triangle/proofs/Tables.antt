@@ -1,6 +1,6 @@
 -- What is read of a triangle, place by place, is the definition's list of values.
 use mathlib.Core.Path.{_≡_, refl, sym, ap, _∙_}
-use Prim.Native.Nat.{ℕ, zero, suc, _+_, _-_, _≤_, _<_}
+use Prim.Native.Nat.{ℕ, zero, suc, _+_, _≤_, _<_}
 use native.Mathlib.Decide.{decLe}
 use native.Mathlib.Omega.{arith}
 use lib.IntN.{pos}
