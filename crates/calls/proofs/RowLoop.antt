@@ -14,7 +14,7 @@ use mir.Val.{SFits}
 use Rattle.integers.proofs.MachineArithmetic.{fits-natAbs}
 use Rattle.integers.proofs.RingSolver.{con, _:+_, _:*_, _:=_, ring}
 use Rattle.integers.proofs.LinearFacts.{integers, ≤ℤ-by}
-use Rattle.integers.proofs.Order.{*ℤ-nonneg, natAbs-by, natAbs-+ℤ, natAbs-≤}
+use Rattle.integers.proofs.Order.{*ℤ-nonneg, natAbs-in-range, natAbs-+ℤ, natAbs-≤}
 use Rattle.method.specs.Limits.{one-unit, greatest-figure, greatest-outstanding, most-accident-years}
 use Rattle.method.specs.ProjectedYear as meaning
 use Rattle.method.specs.ProjectedYear.{next-year, figures}
@@ -83,7 +83,7 @@ module _ {n : ℕ} {ratios : List Sums} {i : ℕ} {units : ℤ} (ok : RowInput n
   }
 
   pub units-small : natAbs units ≤ natAbs greatest-outstanding
-  units-small = natAbs-by (con units) (natAbs greatest-outstanding) (omega (arith, integers, ok .observed-nonneg, ok .observed-most))
+  units-small = natAbs-in-range units (ok .observed-nonneg, ok .observed-most)
 
 -- after j projected years
 pub record RowSoFar (n : ℕ) (ratios : List Sums) (i : ℕ) (observed : ℤ) (start : ℕ) (before : List ℤ) (after : List ℤ) (outstanding paid incurred : ℤ) (place j : ℕ)
@@ -112,7 +112,7 @@ module _ {n : ℕ} {ratios : List Sums} {i : ℕ} {observed : ℤ} (ok : RowInMi
     paid-is = sym (sum-none _);
     incurred-is = sym (ap (λ (x : ℤ). observed +ℤ x) (sum-none _) ∙ +ℤ-idr observed);
     paid-size = omega arith;
-    incurred-size = natAbs-by (con observed) _ (omega (arith, integers, ok .observed-nonneg, ok .observed-most));
+    incurred-size = natAbs-in-range observed (ok .observed-nonneg, ok .observed-most);
     place-is = omega arith;
     same-length = refl;
     written = sym (ap (λ (xs : List ℤ). take start before ++ xs) (up-to-none _++_ [] _) ∙ append-nil (take start before));

@@ -1,6 +1,6 @@
 -- Question 10 of a cell: the code's test, within 64 bits, is document 01's.
 use mathlib.Core.Path.{_≡_, refl, sym, ap, _∙_}
-use mathlib.Core.Bool.{Bool, true, false, _&&_}
+use mathlib.Core.Bool.{Bool, true, false, _&&_, and-comm}
 use native.Mathlib.Omega.{arith}
 use lib.IntN.{ℤ, pos, _+ℤ_, _-ℤ_}
 use lib.Signed.{leZ, ltZ, _≤ℤ_, _<ℤ_, leZ-yes, ltZ-yes}
@@ -33,12 +33,6 @@ same-sum years i k = same-test (leZ (years +ℤ pos 2 -ℤ i) k) (ltZ (years +�
       where
         moved : (years +ℤ pos 1) <ℤ (i +ℤ k) → (years +ℤ pos 2 -ℤ i) ≤ℤ k
         moved h = ≤ℤ-by (con years :+ con (pos 2) :- con i) (con k) (omega (arith, integers, parts (con years :+ con (pos 1)), parts (con i :+ con k)))
-
-and-comm : (b c : Bool) → (b && c) ≡ (c && b)
-and-comm true true = refl
-and-comm true false = refl
-and-comm false true = refl
-and-comm false false = refl
 
 pub in-range-unseen : (years i k : ℤ) → from-to (pos 2) years i ≡ true → from-to (years +ℤ pos 2 -ℤ i) years k ≡ cell-unseen years i k
 unfolding cell-unseen

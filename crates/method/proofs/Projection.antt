@@ -4,6 +4,7 @@ use Prim.Native.Nat.{ℕ, zero, suc, _+_, _-_, _≤_, _<_}
 use native.Mathlib.Nat.{add-zero}
 use native.Mathlib.Decide.{decLe}
 use native.Mathlib.Omega.{arith}
+use borrow.Author.Tests.{le-leb, lt-leb}
 use lib.IntN.{ℤ, pos, _+ℤ_, _-ℤ_, _*ℤ_, +ℤ-idl, *ℤ-zero}
 use lib.Signed.{_≤ℤ_, _<ℤ_}
 use Rattle.integers.proofs.RingSolver.{con, _:+_, _:-_, _:=_, ring}
@@ -14,7 +15,6 @@ use Rattle.method.specs.Counting.{up-to, sum-to}
 use Rattle.method.specs.Triangle.{Triangle, n, w}
 use Rattle.method.specs.Outstandings.{Sums, R, sums}
 use Rattle.method.specs.ProjectedYear.{share, next-year, account, O, movement, last-observed, year-before, paid-reserve, incurred-reserve, closing}
-use Rattle.method.proofs.Tests.{leb-true, leb-false}
 use Rattle.method.proofs.QuestionFacts.{Observed}
 use Rattle.method.proofs.SumBounds.{factor-is}
 
@@ -45,11 +45,11 @@ module _ (t : Triangle) {X : Type 0} (observed : ℤ → X) (next : X → Sums �
   pub account-observed : (i k : ℕ) → i + k ≤ n t + 1 → account t observed next i k ≡ observed (R t i k *ℤ one-unit)
   unfolding account
   account-observed i zero h = refl
-  account-observed i (suc k) h = rw (leb-true (i + suc k) (n t + 1) h, account)
+  account-observed i (suc k) h = rw (le-leb (i + suc k) (n t + 1) h, account)
 
   pub account-projected : (i k : ℕ) → n t < i + k → account t observed next i (suc k) ≡ next (account t observed next i k) (sums t k)
   unfolding account
-  account-projected i k h = rw (leb-false (i + suc k) (n t + 1) (omega arith), account)
+  account-projected i k h = rw (lt-leb (i + suc k) (n t + 1) (omega arith), account)
 
 module _ (t : Triangle) where
   pub O-observed : (i k : ℕ) → i + k ≤ n t + 1 → O t i k ≡ R t i k *ℤ one-unit

@@ -4,6 +4,7 @@ use mathlib.Core.Bool.{Bool, true, not, _&&_, _||_}
 use Prim.Native.Nat.{ℕ, suc, _+_, _-_, _≤_, _<_}
 use native.Mathlib.Omega.{arith}
 use lib.Dec.{leb, eqb, leb→le}
+use borrow.Author.Tests.{eqb-true, le-leb}
 use lib.IntN.{ℤ, pos, negsuc, negℤ, _+ℤ_, _-ℤ_, natAbs}
 use lib.ListN.{length}
 use lib.Signed.{leZ, ltZ, _≤ℤ_, _<ℤ_, leZ-yes, ltZ-yes}
@@ -17,7 +18,7 @@ use Rattle.method.specs.Outstandings.{R, sums}
 use Rattle.method.specs.ProjectedYear.{Movement, movement, year-before}
 use Rattle.method.specs.Questions.{accepted, at, nowhere, ask, each-cell, from-to, is-zero, years-in-range, cut-in-range, input-lengths-right, lengths-right, weight-in-range, amount-right, known, outstanding-in-range, unweighted, weight-allowed, exposure-positive, figures-in-range, question-1, question-2, question-3, question-4, question-5, question-6, question-7, question-8, question-9-of-year, question-9, list-questions, input-questions, observed-questions, questions, cell-unseen}
 use Rattle.method.specs.Claim.{Projected}
-use Rattle.method.proofs.Tests.{is-true, and-true, unless-true, from-to-true, is-zero-true, eqb-true, leb-true}
+use Rattle.method.proofs.Tests.{is-true, and-true, unless-true, from-to-true, is-zero-true}
 use Rattle.method.proofs.FirstRefusal.{ask-accepted, then-accepted, first-accepted, each-cell-passed}
 
 -- ---- What questions 1 to 3 leave
@@ -109,7 +110,7 @@ amount-right-true cut i k x e =
     let both = and-true (from-to (negℤ greatest-amount) greatest-amount x) (not (leb (i + k) cut) || is-zero x) e in
     record {
       in-range = natAbs-≤ x (natAbs greatest-amount) .1 (from-to-true (negℤ greatest-amount) greatest-amount x (both .0));
-      zero-where-missing = λ l. is-zero-true x (unless-true (leb (i + k) cut) (is-zero x) (both .1) (leb-true (i + k) cut l));
+      zero-where-missing = λ l. is-zero-true x (unless-true (leb (i + k) cut) (is-zero x) (both .1) (le-leb (i + k) cut l));
     }
 
 -- the figures of a projected year within the limit
@@ -155,13 +156,13 @@ module _ (t : Triangle) where
   outstandings-in-range e i k p q h l =
       let passed : outstanding-in-range t i k ≡ true = each-cell-passed (n t) 6 (outstanding-in-range t) e i k p q h in
       from-to-true (pos 0) greatest-outstanding (R t i k)
-      (unless-true (known t i k) (from-to (pos 0) greatest-outstanding (R t i k)) passed (leb-true (Y t) (i + k) l))
+      (unless-true (known t i k) (from-to (pos 0) greatest-outstanding (R t i k)) passed (le-leb (Y t) (i + k) l))
 
   pub weights-allowed : question-7 t ≡ accepted → (i k : ℕ) → 1 ≤ i → 1 ≤ k → i + k ≤ n t → i + k ≤ Y t → w t i k ≡ pos 0
   unfolding question-7 weight-allowed unweighted
   weights-allowed e i k p q h l =
       let passed : weight-allowed t i k ≡ true = each-cell-passed (n t - 1) 7 (weight-allowed t) e i k p q (omega arith) in
-      is-zero-true (w t i k) (unless-true (unweighted t i k) (is-zero (w t i k)) passed (leb-true (i + k) (Y t) l))
+      is-zero-true (w t i k) (unless-true (unweighted t i k) (is-zero (w t i k)) passed (le-leb (i + k) (Y t) l))
 
   pub exposures-positive : question-8 t ≡ accepted → (k : ℕ) → 1 ≤ k → k < n t → pos 0 <ℤ sums t k .D
   unfolding question-8 exposure-positive

@@ -1,6 +1,6 @@
 -- A single cell is accepted exactly where its triangle is accepted and the cell unseen, and answers the future list's three figures.
 use mathlib.Core.Path.{_≡_, refl, sym, ap, ap₂, _∙_}
-use mathlib.Core.Bool.{Bool, true, false, _&&_}
+use mathlib.Core.Bool.{true, _&&_, and-true}
 use Prim.Native.Nat.{ℕ, _-_, _<_}
 use native.Mathlib.Omega.{arith}
 use lib.Dec.{eqb-refl}
@@ -30,11 +30,7 @@ same-lengths : (t : Triangle) → lengths-right t (future-length (n t)) (reserve
 unfolding lengths-right
 same-lengths t =
     ap₂ (λ a b. input-lengths-right t && a && b) (true-is (eqb-refl (future-length (n t)))) (true-is (eqb-refl (reserves-length (n t))))
-    ∙ and-trues (input-lengths-right t)
-  where
-    and-trues : (b : Bool) → (b && true && true) ≡ b
-    and-trues true = refl
-    and-trues false = refl
+    ∙ and-true (input-lengths-right t && true) ∙ and-true (input-lengths-right t)
 
 module _ (t : Triangle) (i k : ℤ) where
   filling-questions : questions t (lengths-right t (future-length (n t)) (reserves-length (n t))) ≡ questions t (input-lengths-right t)

@@ -6,9 +6,7 @@ use native.Mathlib.Decide.{decLe}
 use native.Mathlib.Omega.{arith}
 use lib.IntN.{ℤ, pos, _+ℤ_, _-ℤ_, _*ℤ_, natAbs, zero-*ℤ}
 use lib.Signed.{_≤ℤ_, ≤ℤ-refl}
-use Rattle.integers.proofs.LinearFacts.{integers}
-use Rattle.integers.proofs.Order.{*ℤ-nonneg, natAbs-by, natAbs-≤, natAbs-*ℤ-≤}
-use Rattle.integers.proofs.RingSolver.{con}
+use Rattle.integers.proofs.Order.{*ℤ-nonneg, natAbs-in-range, natAbs-≤, natAbs-*ℤ-≤}
 use Rattle.method.specs.Limits.{most-ratios, greatest-weight, greatest-amount, greatest-outstanding, greatest-term, greatest-sum}
 use Rattle.method.specs.Counting.{sum-to}
 use Rattle.method.specs.Triangle.{Triangle, n, Y, S, T, w}
@@ -33,8 +31,8 @@ unfolding sums R
 factor-is t k = sums-combined (λ i. w t i k) (λ i. R t i k) (λ i. S t i (suc k)) (λ i. T t i (suc k)) (n t - k)
 
 module _ (t : Triangle) (ok : Observed t) where
-  weight-size : (i k : ℕ) → 1 ≤ i → 1 ≤ k → i + k ≤ n t → natAbs (w t i k) ≤ natAbs greatest-weight
-  weight-size i k p q h = natAbs-by (con (w t i k)) (natAbs greatest-weight) (omega (arith, integers, ok .weight i k p q h))
+  pub weight-size : (i k : ℕ) → 1 ≤ i → 1 ≤ k → i + k ≤ n t → natAbs (w t i k) ≤ natAbs greatest-weight
+  weight-size i k p q h = natAbs-in-range (w t i k) (ok .weight i k p q h)
 
   weighted-amount : (i k : ℕ) (x : ℤ) → 1 ≤ i → 1 ≤ k → i + k ≤ n t → natAbs x ≤ natAbs greatest-amount → natAbs (w t i k *ℤ x) ≤ greatest-term
   weighted-amount i k x p q h l = natAbs-*ℤ-≤ (w t i k) x (natAbs greatest-weight) (natAbs greatest-amount) (weight-size i k p q h) l
@@ -48,7 +46,7 @@ module _ (t : Triangle) (ok : Observed t) where
       go (yes y) =
           let r : (pos 0 ≤ℤ R t i l) × (R t i l ≤ℤ greatest-outstanding) = ok .outstanding i l p (omega arith) u (omega arith) in (
             *ℤ-nonneg (w t i k) (R t i l) (ok .weight i k p q h .0) (r .0),
-            weighted-amount i k (R t i l) p q h (natAbs-by (con (R t i l)) (natAbs greatest-amount) (omega (arith, integers, r))),
+            weighted-amount i k (R t i l) p q h (natAbs-in-range (R t i l) r),
           )
       go (no y) =
           let z : w t i k *ℤ R t i l ≡ pos 0 = ap (λ x. x *ℤ R t i l) (ok .unweighted i k p q h (omega arith)) ∙ zero-*ℤ (R t i l) in

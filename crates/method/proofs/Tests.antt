@@ -1,10 +1,9 @@
 -- Tests that passed or failed, as the facts that they stand for.
 use mathlib.Core.Path.{_≡_, refl, sym, ap, subst}
 use mathlib.Core.Bool.{Bool, true, false, not, _&&_, _||_}
-use Prim.Native.Nat.{ℕ, suc, _≤_, _<_}
+use Prim.Native.Nat.{suc}
 use native.Mathlib.Nat.{suc-ne-zero}
-use lib.Arith.{lt→nleb}
-use lib.Dec.{T as IsTrue, leb, eqb, le→leb, eqb→eq}
+use lib.Dec.{T as IsTrue, eqb→eq}
 use lib.IntN.{ℤ, pos, negsuc}
 use lib.Signed.{leZ, _≤ℤ_, leZ-yes}
 use Rattle.method.specs.Questions.{from-to, is-zero}
@@ -35,16 +34,3 @@ from-to-true low high x e =
 pub is-zero-true : (x : ℤ) → is-zero x ≡ true → x ≡ pos 0
 is-zero-true (pos m) e = ap pos (eqb→eq m 0 (is-true e))
 is-zero-true (negsuc m) e = absurd (suc-ne-zero m (eqb→eq (suc m) 0 (is-true e)))
-
-pub eqb-true : (a b : ℕ) → eqb a b ≡ true → a ≡ b
-eqb-true a b e = eqb→eq a b (is-true e)
-
-pub leb-true : (a b : ℕ) → a ≤ b → leb a b ≡ true
-leb-true a b h = true-is (le→leb a b h)
-
-pub leb-false : (a b : ℕ) → b < a → leb a b ≡ false
-leb-false a b h = go (leb a b) (lt→nleb a b h)
-  where
-    go : (c : Bool) → IsTrue (not c) → c ≡ false
-    go true x = absurd x
-    go false x = refl

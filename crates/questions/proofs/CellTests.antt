@@ -17,7 +17,8 @@ use Rattle.questions.specs.declared.cells.CellTest.the-variants.{WeightI
 use Rattle.questions.specs.Cells.{number-of, passes, cell-of-row, row-of-list, whole-list}
 use Rattle.questions.specs.Lent.{row-part}
 
--- number j of a row, counted from 0
+-- ---- Number j of a row, counted from 0
+
 module _ (test : CellTest) (cut i : ℕ) (row : List ℤ) (j : ℕ) where
   pub cell-passed : passes test cut i (j + 1) (getD row j (pos 0)) ≡ true → cell-of-row test cut i row (j + 1) ≡ accepted
   unfolding cell-of-row entry
@@ -27,6 +28,12 @@ module _ (test : CellTest) (cut i : ℕ) (row : List ℤ) (j : ℕ) where
       → cell-of-row test cut i row (j + 1) ≡ refused (number-of test) (at i (j + 1))
   unfolding cell-of-row entry
   cell-refused e = rw add-one (ask-no _ _ _ (rw add-one at e))
+
+-- ---- A row as the part of its list that it is
+
+-- its numbers are the cells
+pub part-entry : (n r : ℕ) (xs : List ℤ) → length xs ≡ amounts-length n → (j : ℕ) → r + j < n → entry (row-part n r xs) (suc j) ≡ cell n xs (suc r) (suc j)
+part-entry n r xs long j h = entry-at (row-part n r xs) j ∙ part-holds n r xs (omega arith) long j h
 
 -- the rows of a list, as `whole-list` asks them
 abbrev pub rows-of-list : CellTest → ℕ → ℕ → List ℤ → ℕ → Verdict
@@ -47,8 +54,10 @@ row-as-part test cut n xs r l long =
     same : (j : ℕ) → j < n + 1 - (r + 1) → cell-of-row test cut (r + 1) (row-part n r xs) (suc j) ≡ asked (r + 1) (suc j)
     same j h =
         let e : entry (row-part n r xs) (suc j) ≡ cell n xs (r + 1) (suc j) =
-        entry-at (row-part n r xs) j ∙ part-holds n r xs l long j (omega arith) ∙ ap (λ (i : ℕ). cell n xs i (suc j)) (sym (add-one r)) in
+        part-entry n r xs long j (omega arith) ∙ ap (λ (i : ℕ). cell n xs i (suc j)) (sym (add-one r)) in
         ap (λ (x : ℤ). ask (passes test cut (r + 1) (suc j) x) (number-of test) (at (r + 1) (suc j))) e
+
+-- ---- The questions as tests of whole lists
 
 module _ (t : Triangle) where
   pub question-4-is : whole-list WeightInRange (Y t) (n t - 1) (t .weights) ≡ question-4 t

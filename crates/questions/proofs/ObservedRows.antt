@@ -6,17 +6,17 @@ use native.Mathlib.Numerals.{add-one}
 use native.Mathlib.Omega.{arith}
 use lib.IntN.{ℤ, pos, _+ℤ_, _-ℤ_}
 use lib.ListN.{length, List·getD-eq-default}
-use Rattle.method.specs.Triangle.{Triangle, amounts-length, cell, entry}
+use Rattle.method.specs.Triangle.{Triangle, amounts-length, entry}
 use Rattle.method.specs.Outstandings.{R}
 use Rattle.method.specs.Questions.{Verdict, accepted, at, ask, first-to, each-in-row, each-cell, known, outstanding-in-range, question-6}
 use Rattle.method.proofs.FirstRefusal.{first-same, first-accepted}
 use Rattle.method.proofs.Positions.{entry-at}
-use Rattle.method.proofs.Rows.{part-length, part-holds}
+use Rattle.method.proofs.Rows.{part-length}
 use Rattle.questions.specs.declared.cells.CellTest.the-variants.{AmountRight}
 use Rattle.questions.specs.Lent.{counted, row-part}
 use Rattle.questions.specs.Cells.{row-of-list, whole-list}
 use Rattle.questions.specs.Observed.{in-range-where-known, row-outstanding, year-of-row, row-of-outstandings, outstandings-of-year, all-outstandings, RowRight, AmountsRight}
-use Rattle.questions.proofs.CellTests.{rows-of-list, row-as-part}
+use Rattle.questions.proofs.CellTests.{part-entry, rows-of-list, row-as-part}
 
 -- ---- The rows of lists that passed question 5
 
@@ -58,14 +58,11 @@ module _ (n cut : ℕ) (payments adjustments weights openings : List ℤ) (paid 
   abbrev t : Triangle
   t = counted n cut payments adjustments weights openings
 
-  part-entry : (xs : List ℤ) → length xs ≡ amounts-length n → (r k : ℕ) → r + k < n → entry (row-part n r xs) (suc k) ≡ cell n xs (suc r) (suc k)
-  part-entry xs long r k l = entry-at (row-part n r xs) k ∙ part-holds n r xs (omega arith) long k l
-
   pub R-of-row : (r k : ℕ) → r + k ≤ n → R t (suc r) k ≡ row-outstanding (entry openings (suc r)) (row-part n r payments) (row-part n r adjustments) k
   unfolding R row-outstanding
   R-of-row r zero l = refl
   R-of-row r (suc k) l =
-      ap₂ (λ (x y : ℤ). R t (suc r) k -ℤ x +ℤ y) (sym (part-entry payments paid r k (omega arith))) (sym (part-entry adjustments adjusted r k (omega arith)))
+      ap₂ (λ (x y : ℤ). R t (suc r) k -ℤ x +ℤ y) (sym (part-entry n r payments paid k (omega arith))) (sym (part-entry n r adjustments adjusted k (omega arith)))
       ∙ ap (λ (o : ℤ). o -ℤ entry (row-part n r payments) (suc k) +ℤ entry (row-part n r adjustments) (suc k)) (R-of-row r k (omega arith))
 
   row-of-question-6 : (r : ℕ) → r < n → outstandings-of-year n cut payments adjustments openings (suc r) ≡ each-in-row n 6 (outstanding-in-range t) (suc r)

@@ -8,6 +8,7 @@ use native.Mathlib.Numerals.{add-one}
 use native.Mathlib.Decide.{decLe}
 use native.Mathlib.Omega.{arith}
 use lib.Dec.{leb}
+use borrow.Author.Tests.{le-leb}
 use lib.IntN.{ℤ, pos, _+ℤ_, _-ℤ_, natAbs}
 use lib.ListN.{length, getD}
 use mir.Syntax.{w64}
@@ -15,11 +16,11 @@ use mir.Val.{SFits}
 use Rattle.integers.proofs.Difference.{fits→parts}
 use Rattle.integers.proofs.RingSolver.{con, _:+_, _:-_}
 use Rattle.integers.proofs.LinearFacts.{integers, fits-by}
-use Rattle.integers.proofs.Order.{natAbs-parts, natAbs-by}
+use Rattle.integers.proofs.Order.{natAbs-parts, natAbs-in-range}
 use Rattle.method.specs.Limits.{greatest-outstanding}
 use Rattle.method.specs.Triangle.{entry}
 use Rattle.method.specs.Questions.{accepted, refused, at, from-to}
-use Rattle.method.proofs.Tests.{unless-true, from-to-true, leb-true}
+use Rattle.method.proofs.Tests.{unless-true, from-to-true}
 use Rattle.method.proofs.QuestionFacts as facts
 use Rattle.method.proofs.FirstRefusal.{ask-yes, ask-no, ask-accepted, PassedSoFar, none-asked, next-accepted, next-refused, all-accepted, first-accepted}
 use Rattle.questions.specs.declared.cells.CellTest.the-variants.{AmountRight}
@@ -113,8 +114,8 @@ module _ (cut i : ℕ) (opening : ℤ) (payments adjustments : List ℤ) (right 
             go : Dec (cut ≤ i + (j + 1)) → (natAbs next ≤ natAbs greatest-outstanding) ⊎ (i + (j + 1) < cut)
             go (yes h) =
                 let range = from-to-true (pos 0) greatest-outstanding next
-                (unless-true (leb cut (i + (j + 1))) (from-to (pos 0) greatest-outstanding next) p (leb-true cut (i + (j + 1)) h)) in
-                inl (natAbs-by (con next) (natAbs greatest-outstanding) (omega (arith, integers, range)))
+                (unless-true (leb cut (i + (j + 1))) (from-to (pos 0) greatest-outstanding next) p (le-leb cut (i + (j + 1)) h)) in
+                inl (natAbs-in-range next range)
             go (no h) = inr (omega arith)
 
         pub next-year-refused : in-range-where-known cut i (j + 1) next ≡ false

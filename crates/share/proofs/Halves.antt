@@ -12,10 +12,9 @@ use Rattle.integers.specs.HalfUp.{half-up}
 use Rattle.integers.proofs.CommutativeRing.{<ℤ→≤ℤ}
 use Rattle.integers.proofs.RingSolver.{Expression, con, _:-_, _:*_, neg}
 use Rattle.integers.proofs.LinearFacts.{integers, parts, ≤ℤ-by, <ℤ-by}
-use Rattle.integers.proofs.Order.{natAbs-parts, natAbs-by, size-of-nonneg}
+use Rattle.integers.proofs.Order.{natAbs-parts, natAbs-in-range, size-of-nonneg}
 use Rattle.integers.proofs.MachineArithmetic.{fits-natAbs}
 use Rattle.integers.proofs.Rounding.{Nearest, half-up-nearest, half-up-unique}
-use Rattle.method.specs.Limits.{greatest-sum}
 use Rattle.method.specs.ProjectedYear.{share}
 use Rattle.share.specs.declared.Quotient.{Quotient}
 use Rattle.share.specs.declared.Share.the-variants.{Rounded, TooLarge}
@@ -82,10 +81,10 @@ module _ {o p e : ℤ} (i : ShareInput o p e) where
 
   pub division-input : DivisionInput (natAbs o) (natAbs p) (half (natAbs e) p) (natAbs e)
   division-input = record {
-    outstanding-most = natAbs-by (con o) greatest-size (omega (arith, integers));
+    outstanding-most = natAbs-in-range o (i .outstanding-nonneg, i .outstanding-most);
     part-most = i .part-size;
     half-below = omega (arith, integers, natAbs-parts e, half-away-≤ p);
-    exposure-most = natAbs-by (con e) greatest-sum (omega (arith, integers));
+    exposure-most = natAbs-in-range e (<ℤ→≤ℤ (i .exposure-positive), i .exposure-most);
   }
 
   pub outstanding-fits : SFits w64 o

@@ -8,26 +8,21 @@ use native.Mathlib.Omega.{arith}
 use lib.IntN.{ℤ, pos, _+ℤ_, _-ℤ_, _*ℤ_, natAbs}
 use lib.ListN.{length, getD, set, replicate, length-set, length-replicate}
 use lib.Seq.{getD-set-other}
-use lib.Signed.{_≤ℤ_}
-use Rattle.integers.proofs.RingSolver.{con}
-use Rattle.integers.proofs.LinearFacts.{integers}
-use Rattle.integers.proofs.Order.{natAbs-by}
-use Rattle.method.specs.Limits.{greatest-weight, greatest-outstanding, most-accident-years, most-ratios}
+use Rattle.integers.proofs.Order.{natAbs-in-range}
+use Rattle.method.specs.Limits.{greatest-outstanding, most-accident-years, most-ratios}
 use Rattle.method.specs.Triangle.{Triangle, n, S, T, w, entry}
 use Rattle.method.specs.Outstandings.{R, sums}
 use Rattle.method.proofs.QuestionFacts.{Observed}
 use Rattle.method.proofs.Readings.{R-in-range}
 use Rattle.method.proofs.Positions.{entry-at}
 use Rattle.method.proofs.Sums.{sum-same}
+use Rattle.method.proofs.SumBounds.{weight-size}
 use Rattle.triangle.specs.declared.ratios.Sums.{Sums}
 use Rattle.triangle.specs.Ratios.{sums-of, no-sums, partial-sums, DevelopmentOf, FirstYear, FirstOutstandings, YearInput, MovedOn}
 use Rattle.triangle.proofs.Places.{blank, one-more-place}
 use Rattle.triangle.proofs.DevelopmentYear.{same-sums}
 
 -- ---- What questions 1 to 7 leave, as the code wants it
-
-natAbs-in-range : (x : ℤ) → (pos 0 ≤ℤ x) × (x ≤ℤ greatest-outstanding) → natAbs x ≤ natAbs greatest-outstanding
-natAbs-in-range x h = natAbs-by (con x) (natAbs greatest-outstanding) (omega (arith, integers, h))
 
 module _ (t : Triangle) (ok : Observed t) where
   outstanding-size : (r k : ℕ) → r + k ≤ n t → natAbs (R t (suc r) k) ≤ natAbs greatest-outstanding
@@ -54,7 +49,7 @@ module _ (t : Triangle) (ok : Observed t) where
     payments-length = ok .lengths .payments;
     adjustments-length = ok .lengths .adjustments;
     weights-length-right = ok .lengths .weights;
-    weight-size = λ r l. natAbs-by (con (w t (suc r) k)) (natAbs greatest-weight) (omega (arith, integers, ok .weight (suc r) k (omega arith) p (omega arith)));
+    weight-size = λ r l. weight-size t ok (suc r) k (omega arith) p (omega arith);
     payment-size = λ r l. ok .payment (suc r) (suc k) (omega arith) (omega arith) (omega arith) .in-range;
     adjustment-size = λ r l. ok .adjustment (suc r) (suc k) (omega arith) (omega arith) (omega arith) .in-range;
     outstanding-size = λ r l. rw (e r (omega arith)) (outstanding-size r k (omega arith));

@@ -17,7 +17,7 @@ use Rattle.method.specs.Limits.{greatest-weight, greatest-amount, greatest-outs
 use Rattle.method.specs.Counting.{sum-to}
 use Rattle.method.specs.Triangle.{amounts-length, cells-before, cell, entry}
 use Rattle.method.specs.Outstandings.{Sums}
-use Rattle.method.proofs.Positions.{cells-before-none, cells-before-more, cell-at, entry-at, cell-inside, weights-length-is}
+use Rattle.method.proofs.Positions.{cells-before-none, cells-before-more, cell-of-place, entry-at, cell-inside, weights-length-is}
 use Rattle.method.proofs.Sums.{sum-none, sum-more}
 use Rattle.method.proofs.SumBounds.{few-terms}
 use Rattle.questions.specs.Observed.{Movable}
@@ -53,11 +53,6 @@ unfolding partial-sums
 partial-sums-more n k payments adjustments weights outstandings m = rw add-one (same-sums (sum-more m _) (sum-more m _) (sum-more m _))
 
 -- ---- The loop over the accident years
-
--- the number at a place of a list is a cell's
-cell-of-place : (m : ℕ) (xs : List ℤ) (r k place : ℕ) → 1 ≤ k → place ≡ cells-before m r + (k - 1) → getD xs place (pos 0) ≡ cell m xs (suc r) k
-cell-of-place m xs r zero place h e = absurd (omega arith)
-cell-of-place m xs r (suc j) place h e = let f : place ≡ cells-before m r + j = omega arith in ap (λ (x : ℕ). getD xs x (pos 0)) f ∙ sym (cell-at m xs r j)
 
 -- after r accident years
 pub record Summed (n k : ℕ) (payments adjustments weights before : List ℤ) (s : Sums) (after : List ℤ) (weight-at amount-at r : ℕ) : Type 0 where

@@ -1,5 +1,5 @@
 -- The outstandings of development year 1, accident year by accident year.
-use mathlib.Core.Path.{_≡_, sym, ap, _∙_}
+use mathlib.Core.Path.{_≡_, sym, _∙_}
 use mathlib.Core.Logic.{inl}
 use mathlib.Core.List.{List}
 use Prim.Native.Nat.{ℕ, suc, _+_, _-_, _≤_, _<_}
@@ -10,7 +10,7 @@ use lib.ListN.{length, getD, set, replicate, length-set, length-replicate}
 use lib.Seq.{getD-set-other}
 use Rattle.method.specs.Limits.{greatest-amount, most-accident-years}
 use Rattle.method.specs.Triangle.{amounts-length, cells-before, cell, entry}
-use Rattle.method.proofs.Positions.{cells-before-none, cells-before-more, cell-at, cell-inside}
+use Rattle.method.proofs.Positions.{cells-before-none, cells-before-more, cell-of-place, cell-inside}
 use Rattle.questions.specs.Observed.{Movable}
 use Rattle.triangle.specs.Ratios.{FirstYear, FirstOutstandings}
 use Rattle.triangle.proofs.Places.{blank, one-more-place}
@@ -36,7 +36,7 @@ module _ (n : ℕ) (payments adjustments openings : List ℤ) (ok : FirstYear n 
   module _ (outstandings : List ℤ) (start r : ℕ) (p : Placed n payments adjustments openings outstandings start r) where
     module _ (l : r < n) where
       first-cell : (xs : List ℤ) → getD xs start (pos 0) ≡ cell n xs (suc r) 1
-      first-cell xs = let e : start ≡ cells-before n r + 0 = omega (arith, p .start-is) in ap (λ (x : ℕ). getD xs x (pos 0)) e ∙ sym (cell-at n xs r 0)
+      first-cell xs = cell-of-place n xs r 1 start (omega arith) (omega (arith, p .start-is))
 
       pub first-inside : start < amounts-length n
       first-inside = omega (arith, p .start-is, cell-inside n r 0 (omega arith))

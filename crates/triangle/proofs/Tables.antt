@@ -3,13 +3,13 @@ use mathlib.Core.Path.{_≡_, refl, sym, ap, _∙_}
 use Prim.Native.Nat.{ℕ, zero, suc, _+_, _≤_, _<_}
 use native.Mathlib.Decide.{decLe}
 use native.Mathlib.Omega.{arith}
+use borrow.Author.Tests.{le-leb, lt-leb}
 use lib.IntN.{pos}
 use lib.ListN.{length, getD, List·getD-eq-default}
 use lib.Seq.{ext-getD}
 use Rattle.method.specs.Limits.{most-accident-years, most-ratios}
 use Rattle.method.specs.Triangle.{Triangle, n}
 use Rattle.method.specs.Questions.{accepted}
-use Rattle.method.proofs.Tests.{leb-true, leb-false}
 use Rattle.triangle.specs.declared.ratios.Development.{Development}
 use Rattle.triangle.specs.Ratios.{sums-of, no-sums, DevelopmentOf}
 use Rattle.triangle.specs.Reading.{values, as-sums, ratios-at, outstanding-at, development}
@@ -31,16 +31,16 @@ module _ (t : Triangle) (d : Development) (r : DevelopmentOf t (d .ratios) (d .o
   ratio j = go (decLe (j + 2) (n t))
     where
       go : Dec (j + 2 ≤ n t) → getD (d .ratios) j no-sums ≡ ratios-at t j
-      go (yes h) = rw (leb-true (j + 2) (n t) h, ratios-at) (ap as-sums (r .year j (omega arith)))
-      go (no h) = rw (leb-false (j + 2) (n t) (omega arith), ratios-at) (r .year-beyond j (omega arith))
+      go (yes h) = rw (le-leb (j + 2) (n t) h, ratios-at) (ap as-sums (r .year j (omega arith)))
+      go (no h) = rw (lt-leb (j + 2) (n t) (omega arith), ratios-at) (r .year-beyond j (omega arith))
 
   outstanding : (j : ℕ) → getD (d .outstandings) j (pos 0) ≡ outstanding-at t j
   unfolding outstanding-at
   outstanding j = go (decLe (j + 1) (n t))
     where
       go : Dec (j + 1 ≤ n t) → getD (d .outstandings) j (pos 0) ≡ outstanding-at t j
-      go (yes h) = rw (leb-true (j + 1) (n t) h, outstanding-at) (r .outstanding j (omega arith))
-      go (no h) = rw (leb-false (j + 1) (n t) (omega arith), outstanding-at) (r .outstanding-beyond j (omega arith))
+      go (yes h) = rw (le-leb (j + 1) (n t) h, outstanding-at) (r .outstanding j (omega arith))
+      go (no h) = rw (lt-leb (j + 1) (n t) (omega arith), outstanding-at) (r .outstanding-beyond j (omega arith))
 
   pub read-is : d ≡ development t accepted
   unfolding development
@@ -66,11 +66,11 @@ table-holds m j f d beyond = go (decLe (suc j) m)
 module _ (t : Triangle) (most : n t ≤ most-accident-years) where
   ratio-beyond : (j : ℕ) → n t ≤ j + 1 → ratios-at t j ≡ no-sums
   unfolding ratios-at
-  ratio-beyond j h = rw (leb-false (j + 2) (n t) (omega arith), ratios-at)
+  ratio-beyond j h = rw (lt-leb (j + 2) (n t) (omega arith), ratios-at)
 
   outstanding-beyond : (j : ℕ) → n t ≤ j → outstanding-at t j ≡ pos 0
   unfolding outstanding-at
-  outstanding-beyond j h = rw (leb-false (j + 1) (n t) (omega arith), outstanding-at)
+  outstanding-beyond j h = rw (lt-leb (j + 1) (n t) (omega arith), outstanding-at)
 
   ratio-holds : (j : ℕ) → getD (values most-ratios (ratios-at t)) j no-sums ≡ ratios-at t j
   ratio-holds j = table-holds most-ratios j (ratios-at t) no-sums (λ h. ratio-beyond j (omega arith))
@@ -81,9 +81,9 @@ module _ (t : Triangle) (most : n t ≤ most-accident-years) where
   pub development-holds : DevelopmentOf t (development t accepted .ratios) (development t accepted .outstandings)
   unfolding development ratios-at outstanding-at
   development-holds = record {
-    year = λ k h. ap sums-of (ratio-holds k ∙ rw (leb-true (k + 2) (n t) (omega arith), ratios-at));
+    year = λ k h. ap sums-of (ratio-holds k ∙ rw (le-leb (k + 2) (n t) (omega arith), ratios-at));
     year-beyond = λ k h. ratio-holds k ∙ ratio-beyond k h;
-    outstanding = λ r h. outstanding-holds r ∙ rw (leb-true (r + 1) (n t) (omega arith), outstanding-at);
+    outstanding = λ r h. outstanding-holds r ∙ rw (le-leb (r + 1) (n t) (omega arith), outstanding-at);
     outstanding-beyond = λ r h. outstanding-holds r ∙ outstanding-beyond r h;
     ratios-long = values-length most-ratios (ratios-at t);
     outstandings-long = values-length most-accident-years (outstanding-at t);

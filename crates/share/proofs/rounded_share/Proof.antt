@@ -5,8 +5,8 @@ use Prim.Native.Nat.{_+_, _*_}
 use native.Mathlib.Omega.{arith}
 use lib.IntN.{natAbs}
 use mir.Syntax.{w64}
-use mir.Val.{SFits}
 use mir.Facts.{toZ-ofZ}
+use Rattle.integers.proofs.MachineArithmetic.{held}
 use Rattle.integers.proofs.CommutativeRing.{<ℤ→≤ℤ}
 use Rattle.share.specs.Signs.{half, with-sign-of}
 use Rattle.share.specs.LongDivision.{Divided}
@@ -62,10 +62,9 @@ with-sign-of-requires c κs = search needs
 returns-2 : tie.Need-returns-2
 returns-2 c =
     let start = c .before .before .before .before .before .before .before in
-    let fits : SFits w64 (c .with-sign-of .result) = record { sfits = c .with-sign-of .ok } in
     let signed : c .with-sign-of .result ≡ with-sign-of (start .args .part) (c .before .before .divided .result .quotient)
     = simp (toZ-ofZ {w = w64} (start .fits .part)) at (c .with-sign-of .ensures) in
-    rw (toZ-ofZ {w = w64} fits, signed) (rounded (start .pre) (cut (c .before .before)) (omega arith))
+    rw (held (c .with-sign-of .result) (c .with-sign-of .ok), signed) (rounded (start .pre) (cut (c .before .before)) (omega arith))
 
 pub rounded-share-spec : {M : Type 1} → statement M
 rounded-share-spec =

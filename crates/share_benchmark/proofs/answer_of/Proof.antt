@@ -1,9 +1,7 @@
 -- By the case of the share.
 use borrow.Author.Needs.{needs}
 use mathlib.Core.Path.{_≡_}
-use mir.Syntax.{w64}
-use mir.Val.{SFits}
-use mir.Facts.{toZ-ofZ}
+use Rattle.integers.proofs.MachineArithmetic.{held}
 use Rattle.share.specs.declared.Share.the-variants.{Rounded, TooLarge}
 use Rattle.share_benchmark.proofs.answer_of.Statement.{statement}
 use Rattle.share_benchmark.proofs.answer_of.Tie as tie
@@ -17,9 +15,8 @@ enum-told c = search needs
 returns : tie.Need-returns
 returns c =
     let value = c .before .before .share .given .0 .0 .0 in
-    let fits : SFits w64 value = record { sfits = c .struct-told .given .0 .1 } in
     let same : c .before .before .before .before .args .share ≡ Rounded (record { 0 = value }) = cc in
-    rw (toZ-ofZ {w = w64} fits, same)
+    rw (held value (c .struct-told .given .0 .1), same)
 
 returns-2 : tie.Need-returns-2
 returns-2 c =

@@ -2,10 +2,9 @@
 use mathlib.Core.Path.{_≡_, ap, sym, _∙_}
 use Prim.Native.Nat.{_+_, _-_}
 use native.Mathlib.Omega.{arith}
-use lib.IntN.{ℤ, pos}
+use lib.IntN.{pos}
 use lib.ListN.{length, getD}
-use mir.Syntax.{w64}
-use mir.Facts.{toZ-ofZ}
+use Rattle.integers.proofs.MachineArithmetic.{held}
 use Rattle.method.specs.Questions.{refused, at}
 use Rattle.method.proofs.FirstRefusal.{PassedSoFar, none-asked, next-accepted, next-refused, all-accepted}
 use Rattle.questions.specs.Cells.{passes, cell-of-row, row-of-list}
@@ -39,9 +38,8 @@ cell-passes-requires c κs = search needs
 -- the test of the cell at hand
 tested : (c : tie.After-cell-passes Inv-loop μ-loop) → let s = c .before .before .before .before .args in let j = c .before .before .before .loop .j in
     c .cell-passes .result ≡ passes (s .test) (s .cut) (s .i) (j + 1) (getD (s .row .now) j (pos 0))
-tested c =
-    let x : ℤ = getD (c .before .before .before .before .args .row .now) (c .before .before .before .loop .j) (pos 0) in
-    simp (toZ-ofZ {w = w64} {z = x} (record { sfits = c .before .cell-passes-arg .given })) at (c .cell-passes .ensures)
+tested c = simp (held (getD (c .before .before .before .before .args .row .now) (c .before .before .before .loop .j) (pos 0)) (c .before .cell-passes-arg .given))
+    at (c .cell-passes .ensures)
 
 number-requires : tie.Need-number-requires Inv-loop μ-loop
 number-requires c κs = search needs

@@ -14,9 +14,7 @@ moved : (c : tie.Start) → SFits w64 (c .args .outstanding -ℤ c .args .paymen
 moved c = next-fits (c .args .outstanding) (c .args .payment) (c .args .adjustment) (c .fits .outstanding) (c .pre)
 
 sub-result : tie.Need-sub-result
-sub-result c =
-    simp (toZ-ofZ (c .fits .outstanding), toZ-ofZ (c .fits .payment))
-    (less-payment-fits (c .args .outstanding) (c .args .payment) (c .args .adjustment) (c .fits .outstanding) (c .pre))
+sub-result c = simp (toZ-ofZ (c .fits .outstanding), toZ-ofZ (c .fits .payment)) (without-payment c)
 
 add-result : tie.Need-add-result
 add-result c =

@@ -3,8 +3,8 @@ use borrow.Author.Needs.{needs}
 use mathlib.Core.Path.{sym}
 use native.Mathlib.Omega.{arith}
 use lib.IntN.{pos}
-use lib.ListN.{getD, List·getD-eq-default}
-use mir.Facts.{toZ-ofZ}
+use lib.ListN.{List·getD-eq-default}
+use Rattle.integers.proofs.MachineArithmetic.{held}
 use Rattle.method.specs.Triangle.{entry}
 use Rattle.questions.proofs.outstandings.opening_of.Statement.{statement}
 use Rattle.questions.proofs.outstandings.opening_of.Tie as tie
@@ -17,7 +17,7 @@ shared-slice-copy-out-result c = search needs
 
 returns : tie.Need-returns
 unfolding entry
-returns c = toZ-ofZ {z = getD (c .before .before .args .openings .now) (c .before .before .args .r) (pos 0)} (record { sfits = c .result .given })
+returns c = held _ (c .result .given)
 
 returns-2 : tie.Need-returns-2
 unfolding entry
