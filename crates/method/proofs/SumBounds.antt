@@ -21,6 +21,10 @@ pub record SumsInRange (s : Sums) : Type 0 where
   pub D-most : s .D ≤ℤ pos greatest-sum
   pub factor-nonneg : pos 0 ≤ℤ (s .D -ℤ s .P +ℤ s .Q)
 
+-- a weight and an amount within their limits
+pub term-size : (weight amount : ℤ) → natAbs weight ≤ natAbs greatest-weight → natAbs amount ≤ natAbs greatest-amount → natAbs (weight *ℤ amount) ≤ greatest-term
+term-size weight amount = natAbs-*ℤ-≤ weight amount (natAbs greatest-weight) (natAbs greatest-amount)
+
 -- a sum of so few terms, each of its greatest size at most
 pub few-terms : (m : ℕ) (f : ℕ → ℤ) → m ≤ most-ratios → ((i : ℕ) → 1 ≤ i → i ≤ m → natAbs (f i) ≤ greatest-term) → natAbs (sum-to m f) ≤ greatest-sum
 few-terms m f few h = le-trans (sum-natAbs m greatest-term f h) (mul-le-mul-right greatest-term few)
@@ -34,9 +38,6 @@ module _ (t : Triangle) (ok : Observed t) where
   pub weight-size : (i k : ℕ) → 1 ≤ i → 1 ≤ k → i + k ≤ n t → natAbs (w t i k) ≤ natAbs greatest-weight
   weight-size i k p q h = natAbs-in-range (w t i k) (ok .weight i k p q h)
 
-  weighted-amount : (i k : ℕ) (x : ℤ) → 1 ≤ i → 1 ≤ k → i + k ≤ n t → natAbs x ≤ natAbs greatest-amount → natAbs (w t i k *ℤ x) ≤ greatest-term
-  weighted-amount i k x p q h l = natAbs-*ℤ-≤ (w t i k) x (natAbs greatest-weight) (natAbs greatest-amount) (weight-size i k p q h) l
-
   -- the outstanding of year k or k + 1, with the weight of year k: it is known, or it has no weight
   weighted-outstanding : (i k l : ℕ) → 1 ≤ i → 1 ≤ k → i + k ≤ n t → k ≤ l → i + l ≤ n t + 1
       → (pos 0 ≤ℤ (w t i k *ℤ R t i l)) × (natAbs (w t i k *ℤ R t i l) ≤ greatest-term)
@@ -46,7 +47,7 @@ module _ (t : Triangle) (ok : Observed t) where
       go (yes y) =
           let r : (pos 0 ≤ℤ R t i l) × (R t i l ≤ℤ greatest-outstanding) = ok .outstanding i l p (omega arith) u (omega arith) in (
             *ℤ-nonneg (w t i k) (R t i l) (ok .weight i k p q h .0) (r .0),
-            weighted-amount i k (R t i l) p q h (natAbs-in-range (R t i l) r),
+            term-size (w t i k) (R t i l) (weight-size i k p q h) (natAbs-in-range (R t i l) r),
           )
       go (no y) =
           let z : w t i k *ℤ R t i l ≡ pos 0 = ap (λ x. x *ℤ R t i l) (ok .unweighted i k p q h (omega arith)) ∙ zero-*ℤ (R t i l) in
@@ -56,13 +57,11 @@ module _ (t : Triangle) (ok : Observed t) where
     few : n t - k ≤ most-ratios
     few = omega (arith, ok .years .most)
 
-    payments-size : natAbs (sum-to (n t - k) (λ i. w t i k *ℤ S t i (suc k))) ≤ greatest-sum
-    payments-size = few-terms (n t - k) (λ i. w t i k *ℤ S t i (suc k)) few
-        (λ i a b. weighted-amount i k (S t i (suc k)) a q (omega arith) (ok .payment i (suc k) a (omega arith) (omega arith) .in-range))
-
-    adjustments-size : natAbs (sum-to (n t - k) (λ i. w t i k *ℤ T t i (suc k))) ≤ greatest-sum
-    adjustments-size = few-terms (n t - k) (λ i. w t i k *ℤ T t i (suc k)) few
-        (λ i a b. weighted-amount i k (T t i (suc k)) a q (omega arith) (ok .adjustment i (suc k) a (omega arith) (omega arith) .in-range))
+    -- P or Q
+    amounts-size : (amount : ℕ → ℤ) → ((i : ℕ) → 1 ≤ i → i ≤ n t - k → natAbs (amount i) ≤ natAbs greatest-amount)
+        → natAbs (sum-to (n t - k) (λ i. w t i k *ℤ amount i)) ≤ greatest-sum
+    amounts-size amount h = few-terms (n t - k) (λ i. w t i k *ℤ amount i) few
+        (λ i a b. term-size (w t i k) (amount i) (weight-size i k a q (omega arith)) (h i a b))
 
     next-outstandings-nonneg : pos 0 ≤ℤ sum-to (n t - k) (λ i. w t i k *ℤ R t i (suc k))
     next-outstandings-nonneg = sum-nonneg (n t - k) (λ i. w t i k *ℤ R t i (suc k))
@@ -74,8 +73,8 @@ module _ (t : Triangle) (ok : Observed t) where
     pub sums-in-range : SumsInRange (sums t k)
     unfolding sums
     sums-in-range = record {
-      P-size = payments-size;
-      Q-size = adjustments-size;
+      P-size = amounts-size (λ i. S t i (suc k)) (λ i a b. ok .payment i (suc k) a (omega arith) (omega arith) .in-range);
+      Q-size = amounts-size (λ i. T t i (suc k)) (λ i a b. ok .adjustment i (suc k) a (omega arith) (omega arith) .in-range);
       D-most = natAbs-≤ (sum-to (n t - k) (λ i. w t i k *ℤ R t i k)) greatest-sum .0 exposure-size .1;
       factor-nonneg = subst (λ (x : ℤ). pos 0 ≤ℤ x) (sym (factor-is t k)) next-outstandings-nonneg;
     }

@@ -42,14 +42,6 @@ share-input y part h = record {
 
 -- ---- The answer
 
-answered-within : (m : Movement) → figures-in-range m ≡ true → Within (movement-of m) ≡ answered m
-unfolding answered
-answered-within m e = rw e
-
-answered-too-large : (m : Movement) → figures-in-range m ≡ false → TooLarge ≡ answered m
-unfolding answered
-answered-too-large m e = rw e
-
 movement : ProjectedYear → code.Movement
 movement (Within m) = m
 movement TooLarge = movement-of (record { payment = pos 0; adjustment = pos 0; outstanding = pos 0 })
@@ -93,25 +85,7 @@ within-small x m e = subst FiguresSmall (sym (within-is x m e .0)) (small (figur
       outstanding = omega (arith, integers, f .outstanding);
     }
 
--- the sizes of three figures are within the limit, or one is not
-in-range : (a b c : ℤ) → leZ (size a) greatest-figure ≡ true → leZ (size b) greatest-figure ≡ true → leZ (size c) greatest-figure ≡ true
-    → figures-in-range (record { payment = a; adjustment = b; outstanding = c }) ≡ true
-unfolding figures-in-range
-in-range a b c p q r = rw (p, q, r)
-
-payment-out : (a b c : ℤ) → leZ (size a) greatest-figure ≡ false → figures-in-range (record { payment = a; adjustment = b; outstanding = c }) ≡ false
-unfolding figures-in-range
-payment-out a b c p = rw p
-
-adjustment-out : (a b c : ℤ) → leZ (size a) greatest-figure ≡ true → leZ (size b) greatest-figure ≡ false
-    → figures-in-range (record { payment = a; adjustment = b; outstanding = c }) ≡ false
-unfolding figures-in-range
-adjustment-out a b c p q = rw (p, q)
-
-outstanding-out : (a b c : ℤ) → leZ (size a) greatest-figure ≡ true → leZ (size b) greatest-figure ≡ true → leZ (size c) greatest-figure ≡ false
-    → figures-in-range (record { payment = a; adjustment = b; outstanding = c }) ≡ false
-unfolding figures-in-range
-outstanding-out a b c p q r = rw (p, q, r)
+-- ---- The answer from the tests of the three figures
 
 -- an outstanding that is not negative needs one test only
 above : (x : ℤ) → pos 0 ≤ℤ x → ltZ greatest-figure x ≡ true → leZ (size x) greatest-figure ≡ false
@@ -130,13 +104,13 @@ module _ {r : ℤ} {s : Sums} (y : YearInput r s) where
   adjusted = share r (s .Q) (s .D)
 
   pub payment-too-large : variants.TooLarge ≡ answer.answered paid → TooLarge ≡ answered (next-year r s)
-  unfolding next-year
-  payment-too-large e = answered-too-large _ (payment-out _ _ _ (too-large-is paid e))
+  unfolding next-year answered figures-in-range
+  payment-too-large e = rw (too-large-is paid e)
 
   module _ {payment : Millionths} (p : variants.Rounded payment ≡ answer.answered paid) where
     pub adjustment-too-large : variants.TooLarge ≡ answer.answered adjusted → TooLarge ≡ answered (next-year r s)
-    unfolding next-year
-    adjustment-too-large e = answered-too-large _ (adjustment-out _ _ _ (rounded-is paid payment p .1) (too-large-is adjusted e))
+    unfolding next-year answered figures-in-range
+    adjustment-too-large e = rw (rounded-is paid payment p .1, too-large-is adjusted e)
 
     payment-size : natAbs (payment .0) ≤ greatest-size
     payment-size = rounded-size paid payment p
@@ -164,13 +138,13 @@ module _ {r : ℤ} {s : Sums} (y : YearInput r s) where
       adjustment-in = le-leb (natAbs (adjustment .0)) greatest-size adjustment-size
 
       pub outstanding-too-large : ltZ greatest-figure next ≡ true → TooLarge ≡ answered (next-year r s)
-      outstanding-too-large e =
-          answered-too-large _ (outstanding-out (payment .0) (adjustment .0) next payment-in adjustment-in (above next nonneg e)) ∙ ap answered is-next-year
+      unfolding answered figures-in-range
+      outstanding-too-large e = rw (← is-next-year, payment-in, adjustment-in, above next nonneg e)
 
       pub all-within : ltZ greatest-figure next ≡ false
           → Within (record { payment = payment; adjustment = adjustment; outstanding = record { 0 = next } }) ≡ answered (next-year r s)
-      all-within e =
-          answered-within _ (in-range (payment .0) (adjustment .0) next payment-in adjustment-in (not-above next nonneg e)) ∙ ap answered is-next-year
+      unfolding answered figures-in-range
+      all-within e = rw (← is-next-year, payment-in, adjustment-in, not-above next nonneg e)
 
 -- ---- Within 64 bits
 

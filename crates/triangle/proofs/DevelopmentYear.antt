@@ -11,15 +11,15 @@ use lib.ListN.{length, getD, set, length-set}
 use lib.Seq.{getD-set-other}
 use mir.Syntax.{w64}
 use mir.Val.{SFits}
-use Rattle.integers.proofs.Order.{natAbs-+ℤ, natAbs-*ℤ-≤}
+use Rattle.integers.proofs.Order.{natAbs-+ℤ}
 use Rattle.integers.proofs.MachineArithmetic.{fits-natAbs}
-use Rattle.method.specs.Limits.{greatest-weight, greatest-amount, greatest-outstanding, greatest-term, greatest-sum, most-accident-years}
+use Rattle.method.specs.Limits.{greatest-amount, greatest-outstanding, greatest-term, greatest-sum, most-accident-years}
 use Rattle.method.specs.Counting.{sum-to}
 use Rattle.method.specs.Triangle.{amounts-length, cells-before, cell, entry}
 use Rattle.method.specs.Outstandings.{Sums}
 use Rattle.method.proofs.Positions.{cells-before-none, cells-before-more, cell-of-place, entry-at, cell-inside, weights-length-is}
 use Rattle.method.proofs.Sums.{sum-none, sum-more}
-use Rattle.method.proofs.SumBounds.{few-terms}
+use Rattle.method.proofs.SumBounds.{term-size, few-terms}
 use Rattle.questions.specs.Observed.{Movable}
 use Rattle.triangle.proofs.Places.{one-more-place}
 use Rattle.triangle.specs.Ratios.{partial-sums, MovedOn, YearInput, with-row, Summable, Addable}
@@ -27,18 +27,18 @@ use Rattle.triangle.specs.Ratios.{partial-sums, MovedOn, YearInput, with
 -- ---- A term and a sum within 64 bits
 
 module _ (sum weight amount : ℤ) (h : Summable sum weight amount) where
-  term-size : natAbs (weight *ℤ amount) ≤ greatest-term
-  term-size = natAbs-*ℤ-≤ weight amount (natAbs greatest-weight) (natAbs greatest-amount) (h .weight-size) (h .amount-size)
+  term-small : natAbs (weight *ℤ amount) ≤ greatest-term
+  term-small = term-size weight amount (h .weight-size) (h .amount-size)
 
   pub so-far-fits : SFits w64 sum
   so-far-fits = fits-natAbs w64 sum greatest-sum (h .sum-size) (lit< tt)
 
   pub term-fits : SFits w64 (weight *ℤ amount)
-  term-fits = fits-natAbs w64 (weight *ℤ amount) greatest-term term-size (lit< tt)
+  term-fits = fits-natAbs w64 (weight *ℤ amount) greatest-term term-small (lit< tt)
 
   pub sum-fits : SFits w64 (sum +ℤ weight *ℤ amount)
   sum-fits = fits-natAbs w64 (sum +ℤ weight *ℤ amount) (greatest-sum + greatest-term)
-      (omega (arith, natAbs-+ℤ sum (weight *ℤ amount), h .sum-size, term-size)) (lit< tt)
+      (omega (arith, natAbs-+ℤ sum (weight *ℤ amount), h .sum-size, term-small)) (lit< tt)
 
 -- ---- Three sums are those of document 01 where each is
 
@@ -92,21 +92,18 @@ module _ (n k : ℕ) (payments adjustments weights before : List ℤ) (ok : Year
       pub amount-inside : amount-at < amounts-length n
       amount-inside = omega (arith, w .amount-place, cell-inside n r k l)
 
-      -- the size of a sum so far
-      sum-size : (f : ℕ → ℤ) → ((j : ℕ) → j < r → natAbs (cell (n - 1) weights (suc j) k *ℤ f (suc j)) ≤ greatest-term)
-          → natAbs (sum-to r (λ i. cell (n - 1) weights i k *ℤ f i)) ≤ greatest-sum
-      sum-size f h = few-terms r (λ i. cell (n - 1) weights i k *ℤ f i) (omega (arith, ok .most, ok .first)) each
+      -- a sum so far of amounts f 1, …, f r, and the amount x that comes next
+      summable : (f : ℕ → ℤ) (x : ℤ) → ((j : ℕ) → j < r → natAbs (f (suc j)) ≤ natAbs greatest-amount) → natAbs x ≤ natAbs greatest-amount
+          → Summable (sum-to r (λ i. cell (n - 1) weights i k *ℤ f i)) (getD weights weight-at (pos 0)) x
+      summable f x h small = record {
+        sum-size = few-terms r (λ i. cell (n - 1) weights i k *ℤ f i) (omega (arith, ok .most, ok .first)) each;
+        weight-size = rw weight-of (ok .weight-size r l);
+        amount-size = small;
+      }
         where
           each : (i : ℕ) → 1 ≤ i → i ≤ r → natAbs (cell (n - 1) weights i k *ℤ f i) ≤ greatest-term
           each zero p q = absurd (omega arith)
-          each (suc j) p q = h j (omega arith)
-
-      weighted : (j : ℕ) (x : ℤ) → j < r → natAbs x ≤ natAbs greatest-amount → natAbs (cell (n - 1) weights (suc j) k *ℤ x) ≤ greatest-term
-      weighted j x h m =
-          natAbs-*ℤ-≤ (cell (n - 1) weights (suc j) k) x (natAbs greatest-weight) (natAbs greatest-amount) (ok .weight-size j (omega arith)) m
-
-      weight-small : natAbs (getD weights weight-at (pos 0)) ≤ natAbs greatest-weight
-      weight-small = rw weight-of (ok .weight-size r l)
+          each (suc j) p q = term-size (cell (n - 1) weights (suc j) k) (f (suc j)) (ok .weight-size j (omega arith)) (h j (omega arith))
 
       payment-small : natAbs (getD payments amount-at (pos 0)) ≤ natAbs greatest-amount
       payment-small = rw (amount-of payments) (ok .payment-size r l)
@@ -120,21 +117,9 @@ module _ (n k : ℕ) (payments adjustments weights before : List ℤ) (ok : Year
       pub addable : Addable s (getD weights weight-at (pos 0)) (getD payments amount-at (pos 0)) (getD adjustments amount-at (pos 0)) (getD after r (pos 0))
       unfolding partial-sums entry
       addable = rw (w .sums-are) (record {
-        payments = record {
-          sum-size = sum-size (λ i. cell n payments i (suc k)) (λ j h. weighted j _ h (ok .payment-size j (omega arith)));
-          weight-size = weight-small;
-          amount-size = payment-small;
-        };
-        adjustments = record {
-          sum-size = sum-size (λ i. cell n adjustments i (suc k)) (λ j h. weighted j _ h (ok .adjustment-size j (omega arith)));
-          weight-size = weight-small;
-          amount-size = adjustment-small;
-        };
-        exposure = record {
-          sum-size = sum-size (entry before) (λ j h. weighted j _ h (ok .outstanding-size j (omega arith)));
-          weight-size = weight-small;
-          amount-size = outstanding-small;
-        };
+        payments = summable (λ i. cell n payments i (suc k)) _ (λ j h. ok .payment-size j (omega arith)) payment-small;
+        adjustments = summable (λ i. cell n adjustments i (suc k)) _ (λ j h. ok .adjustment-size j (omega arith)) adjustment-small;
+        exposure = summable (entry before) _ (λ j h. ok .outstanding-size j (omega arith)) outstanding-small;
       })
 
       pub movable : Movable (getD after r (pos 0)) (getD payments amount-at (pos 0)) (getD adjustments amount-at (pos 0))

@@ -17,12 +17,14 @@ use Rattle.projection.proofs.year.next_year.Reads as next-year-reads
 use Rattle.calls.proofs.single_cell.+movement+outstanding.{statement}
 use Rattle.calls.proofs.single_cell.+movement+outstanding.Tie.{close}
 
+-- twice the development year, and one more for the outstanding, which is taken from the movement of the same year
 abbrev μ-movement : Measures 0 movement-kinds.ps ℕ
 μ-movement κs a = a .1 .1 .1 .0 + a .1 .1 .1 .0
 
 abbrev μ-outstanding : Measures 0 outstanding-kinds.ps ℕ
 μ-outstanding κs a = a .1 .1 .1 .0 + a .1 .1 .1 .0 + 1
 
+-- either function where its measure is t, and where it is below t
 abbrev movement-at : ℕ → In 0 movement-kinds.ps
 movement-at t = and 0 movement-kinds.ps (is 0 movement-kinds.ps μ-movement t) movement.Pre
 
@@ -38,129 +40,68 @@ abbrev outstanding-below : ℕ → In 0 outstanding-kinds.ps
 outstanding-below t =
     and 0 outstanding-kinds.ps (falls 0 outstanding-kinds.ps _<_ μ-outstanding t) outstanding.Pre
 
-movement-sub-outstanding : (t : ℕ) → movement-lts.Need-sub-outstanding (
-  outstanding-below t,
-  outstanding.Post,
-  next-year-reads.Asked,
-  next-year-reads.Learnt,
-) (movement-at t) movement.Post
+-- what the functions that each of the two calls ask and answer
+abbrev called-by-movement : ℕ → movement-lts.Claims
+called-by-movement t = (outstanding-below t, outstanding.Post, next-year-reads.Asked, next-year-reads.Learnt)
+
+abbrev called-by-outstanding : ℕ → outstanding-lts.Claims
+called-by-outstanding t = (movement-below t, movement.Post)
+
+movement-sub-outstanding : (t : ℕ) → movement-lts.Need-sub-outstanding (called-by-movement t) (movement-at t) movement.Post
 movement-sub-outstanding t c = omega (arith, c .pre .1 .1)
 
-movement-outstanding-requires : (t : ℕ) → movement-lts.Need-outstanding-requires (
-  outstanding-below t,
-  outstanding.Post,
-  next-year-reads.Asked,
-  next-year-reads.Learnt,
-) (movement-at t) movement.Post
+movement-outstanding-requires : (t : ℕ) → movement-lts.Need-outstanding-requires (called-by-movement t) (movement-at t) movement.Post
 movement-outstanding-requires t c κs = (let m = c .pre .0 in let l = c .pre .1 .1 in search needs, before (c .pre .1 .0) (c .pre .1 .1))
 
-movement-sub-next-year : (t : ℕ) → movement-lts.Need-sub-next-year (
-  outstanding-below t,
-  outstanding.Post,
-  next-year-reads.Asked,
-  next-year-reads.Learnt,
-) (movement-at t) movement.Post
+movement-sub-next-year : (t : ℕ) → movement-lts.Need-sub-next-year (called-by-movement t) (movement-at t) movement.Post
 movement-sub-next-year t c = omega (arith, c .before .pre .1 .0 .first, c .before .pre .1 .1)
 
-movement-mul-next-year : (t : ℕ) → movement-lts.Need-mul-next-year (
-  outstanding-below t,
-  outstanding.Post,
-  next-year-reads.Asked,
-  next-year-reads.Learnt,
-) (movement-at t) movement.Post
+movement-mul-next-year : (t : ℕ) → movement-lts.Need-mul-next-year (called-by-movement t) (movement-at t) movement.Post
 movement-mul-next-year t c = search needs
 
-movement-array-copy-out-next-year : (t : ℕ) → movement-lts.Need-array-copy-out-next-year (
-  outstanding-below t,
-  outstanding.Post,
-  next-year-reads.Asked,
-  next-year-reads.Learnt,
-) (movement-at t) movement.Post
+movement-array-copy-out-next-year : (t : ℕ) → movement-lts.Need-array-copy-out-next-year (called-by-movement t) (movement-at t) movement.Post
 movement-array-copy-out-next-year t c = omega (arith, c .before .pre .1 .0 .most, c .before .pre .1 .0 .first, c .before .pre .1 .1)
 
-movement-next-year-requires : (t : ℕ) → movement-lts.Need-next-year-requires (
-  outstanding-below t,
-  outstanding.Post,
-  next-year-reads.Asked,
-  next-year-reads.Learnt,
-) (movement-at t) movement.Post
+movement-next-year-requires : (t : ℕ) → movement-lts.Need-next-year-requires (called-by-movement t) (movement-at t) movement.Post
 movement-next-year-requires t c κs = rw (c .before .outstanding .ensures) (year-input (c .before .before .pre .1 .0) (c .before .before .pre .1 .1))
 
-movement-enum-known-projected : (t : ℕ) → movement-lts.Need-enum-known-projected (
-  outstanding-below t,
-  outstanding.Post,
-  next-year-reads.Asked,
-  next-year-reads.Learnt,
-) (movement-at t) movement.Post
+movement-enum-known-projected : (t : ℕ) → movement-lts.Need-enum-known-projected (called-by-movement t) (movement-at t) movement.Post
 movement-enum-known-projected t c = search needs
 
-movement-enum-told : (t : ℕ) → movement-lts.Need-enum-told (
-  outstanding-below t,
-  outstanding.Post,
-  next-year-reads.Asked,
-  next-year-reads.Learnt,
-) (movement-at t) movement.Post
+movement-enum-told : (t : ℕ) → movement-lts.Need-enum-told (called-by-movement t) (movement-at t) movement.Post
 movement-enum-told t c = search needs
 
-movement-returns : (t : ℕ) → movement-lts.Need-returns (
-  outstanding-below t,
-  outstanding.Post,
-  next-year-reads.Asked,
-  next-year-reads.Learnt,
-) (movement-at t) movement.Post
+movement-returns : (t : ℕ) → movement-lts.Need-returns (called-by-movement t) (movement-at t) movement.Post
 movement-returns t c =
     let y = c .before .before in
     let p = y .before .before .before .pre .1 in
     absurd (never-too-large (p .0) (p .1) (sym (c .enum-told .given .1) ∙ (simp (y .before .before .outstanding .ensures) at (y .next-year .ensures))))
 
-movement-returns-2 : (t : ℕ) → movement-lts.Need-returns-2 (
-  outstanding-below t,
-  outstanding.Post,
-  next-year-reads.Asked,
-  next-year-reads.Learnt,
-) (movement-at t) movement.Post
+movement-returns-2 : (t : ℕ) → movement-lts.Need-returns-2 (called-by-movement t) (movement-at t) movement.Post
 movement-returns-2 t c =
     let y = c .before .before .before in
     let p = y .before .before .before .pre .1 in
     answered-movement (p .0) (p .1) (sym (c .before .projected .given .1) ∙ (simp (y .before .before .outstanding .ensures) at (y .next-year .ensures)))
 
-outstanding-movement-requires : (t : ℕ) → outstanding-lts.Need-movement-requires (
-  movement-below t,
-  movement.Post,
-) (outstanding-at t) outstanding.Post
+outstanding-movement-requires : (t : ℕ) → outstanding-lts.Need-movement-requires (called-by-outstanding t) (outstanding-at t) outstanding.Post
 outstanding-movement-requires t c κs =
     let p = c .before .pre .1 in
     let l = later-than (p .later) (c .if1 .left) in
     (let m = c .before .pre .0 in search needs, (p, l))
 
-outstanding-returns :
-    (t : ℕ) →
-    outstanding-lts.Need-returns
-    (movement-below t, movement.Post)
-    (outstanding-at t)
-    outstanding.Post
+outstanding-returns : (t : ℕ) → outstanding-lts.Need-returns (called-by-outstanding t) (outstanding-at t) outstanding.Post
 outstanding-returns t c = at-last (c .before .pre .1) (c .if1 .taken)
 
-outstanding-returns-2 :
-    (t : ℕ) →
-    outstanding-lts.Need-returns-2
-    (movement-below t, movement.Post)
-    (outstanding-at t)
-    outstanding.Post
+outstanding-returns-2 : (t : ℕ) → outstanding-lts.Need-returns-2 (called-by-outstanding t) (outstanding-at t) outstanding.Post
 outstanding-returns-2 t c =
     let e = c .before .before in
     let p = e .before .pre .1 in
     ap (λ (m : Movement). m .outstanding .0) (c .before .movement .ensures) ∙ sym (from-movement p (later-than (p .later) (e .if1 .left)))
 
 pub +movement+outstanding-spec : {M : Type 1} → statement M
-+movement+outstanding-spec = close μ-movement μ-outstanding (λ t. movement-lts.spec (
-  outstanding-below t,
-  outstanding.Post,
-  next-year-reads.Asked,
-  next-year-reads.Learnt,
-)
-    (movement-at t)
-    movement.Post
++movement+outstanding-spec =
+    close μ-movement μ-outstanding
+    (λ t. movement-lts.spec (called-by-movement t) (movement-at t) movement.Post
     (movement-sub-outstanding t)
     (movement-outstanding-requires t)
     (movement-sub-next-year t)
@@ -171,10 +112,7 @@ pub +movement+outstanding-spec : {M : Type 1} → statement M
     (movement-enum-told t)
     (movement-returns t)
     (movement-returns-2 t))
-    λ t. outstanding-lts.spec
-    (movement-below t, movement.Post)
-    (outstanding-at t)
-    outstanding.Post
+    (λ t. outstanding-lts.spec (called-by-outstanding t) (outstanding-at t) outstanding.Post
     (outstanding-movement-requires t)
     (outstanding-returns t)
-    (outstanding-returns-2 t)
+    (outstanding-returns-2 t))
