@@ -20,10 +20,10 @@ use Rattle.calls.specs.Answers.{answered, Filled}
 use Rattle.calls.proofs.OfTriangle.{question-9-is, future-is, reserves-is}
 use Rattle.calls.proofs.ReadTriangles.{was-read, with-question-9}
 
-module _ {t : Triangle} {before-f before-r : List ℤ} where
-  module _ {r : Reading} (e : ReadingOf t (OfLengths (length before-f) (length before-r)) r) where
+module _ {t : Triangle} {future-before reserves-before : List ℤ} where
+  module _ {r : Reading} (e : ReadingOf t (OfLengths (length future-before) (length reserves-before)) r) where
     pub refused-before : {question : ℕ} {p : Place} → verdict-of (r .verdict) ≡ refused question p
-        → Filled t before-f before-r (verdict-of (r .verdict)) before-f before-r
+        → Filled t future-before reserves-before (verdict-of (r .verdict)) future-before reserves-before
     unfolding questions
     refused-before d = record {
       verdict-is = stopped _ (e .verdict-is) d;
@@ -35,8 +35,8 @@ module _ {t : Triangle} {before-f before-r : List ℤ} where
 
     pub projected : {v : Verdict} {future reserves : List ℤ} → verdict-of (r .verdict) ≡ accepted
         → RowsProjected (n t) (r .development .ratios) (r .development .outstandings) v future reserves
-        → (length future ≡ length before-f) × (length reserves ≡ length before-r)
-        → Filled t before-f before-r v future reserves
+        → (length future ≡ length future-before) × (length reserves ≡ length reserves-before)
+        → Filled t future-before reserves-before v future reserves
     projected a p l = record {
       verdict-is = with-question-9 e a (p .verdict-is ∙ question-9-is (was-read e a));
       future-is = λ b. p .future-is b ∙ future-is (was-read e a);
@@ -47,22 +47,22 @@ module _ {t : Triangle} {before-f before-r : List ℤ} where
 
   -- ---- The whole answer
 
-  module _ {v : Verdict} {future reserves : List ℤ} (f : Filled t before-f before-r v future reserves) where
+  module _ {v : Verdict} {future reserves : List ℤ} (f : Filled t future-before reserves-before v future reserves) where
     pub refused-whole : {question : ℕ} {p : Place} → v ≡ refused question p
-        → answered v (replicate (length before-f) (pos 0)) (replicate (length before-r) (pos 0)) ≡ answer t (length before-f) (length before-r)
+        → answered v (replicate (length future-before) (pos 0)) (replicate (length reserves-before) (pos 0)) ≡ answer t (length future-before) (length reserves-before)
     refused-whole {question} {p} d =
-        ap (λ (x : Verdict). answered x (replicate (length before-f) (pos 0)) (replicate (length before-r) (pos 0))) d
-        ∙ sym (refused-answer t (length before-f) (length before-r) question p (sym (f .verdict-is) ∙ d))
+        ap (λ (x : Verdict). answered x (replicate (length future-before) (pos 0)) (replicate (length reserves-before) (pos 0))) d
+        ∙ sym (refused-answer t (length future-before) (length reserves-before) question p (sym (f .verdict-is) ∙ d))
 
-    said : v ≡ accepted → answer t (length before-f) (length before-r) .verdict ≡ accepted
+    said : v ≡ accepted → answer t (length future-before) (length reserves-before) .verdict ≡ accepted
     unfolding answer
-    said a = filled-verdict t _ _ (questions t (lengths-right t (length before-f) (length before-r))) ∙ sym (f .verdict-is) ∙ a
+    said a = filled-verdict t _ _ (questions t (lengths-right t (length future-before) (length reserves-before))) ∙ sym (f .verdict-is) ∙ a
 
-    pub accepted-whole : v ≡ accepted → answered v future reserves ≡ answer t (length before-f) (length before-r)
-    accepted-whole a = same a (f .future-is a) (f .reserves-are a) ∙ sym (accepted-answer t (length before-f) (length before-r) (said a))
+    pub accepted-whole : v ≡ accepted → answered v future reserves ≡ answer t (length future-before) (length reserves-before)
+    accepted-whole a = same a (f .future-is a) (f .reserves-are a) ∙ sym (accepted-answer t (length future-before) (length reserves-before) (said a))
       where
         same : {v w : Verdict} {a b c d : List ℤ} → v ≡ w → a ≡ c → b ≡ d → answered v a b ≡ answered w c d
         same p q r = cc
 
     pub demand-3-holds : v ≡ accepted → Demand-3 t future reserves
-    demand-3-holds a = subst (λ (x : Answer). Demand-3 t (x .future) (x .reserves)) (sym (accepted-whole a)) (demand-3 t (length before-f) (length before-r) (said a))
+    demand-3-holds a = subst (λ (x : Answer). Demand-3 t (x .future) (x .reserves)) (sym (accepted-whole a)) (demand-3 t (length future-before) (length reserves-before) (said a))

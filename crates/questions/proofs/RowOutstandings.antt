@@ -56,13 +56,13 @@ next-fits o s t f m = go (m .in-range-or-unmoved)
 -- ---- The loop over a row
 
 -- after j years
-pub record Rolled (cut i : ℕ) (opening : ℤ) (payments adjustments : List ℤ) (outstanding : ℤ) (j : ℕ) : Type 0 where
+pub record YearsPassed (cut i : ℕ) (opening : ℤ) (payments adjustments : List ℤ) (outstanding : ℤ) (j : ℕ) : Type 0 where
   pub so-far : PassedSoFar (length payments) (year-of-row cut i opening payments adjustments) j
   pub is : outstanding ≡ row-outstanding opening payments adjustments j
   pub in-range-or-unknown : (natAbs outstanding ≤ natAbs greatest-outstanding) ⊎ (i + j < cut)
 
 module _ (cut i : ℕ) (opening : ℤ) (payments adjustments : List ℤ) (right : RowRight cut i opening payments adjustments) where
-  pub before-first-year : Rolled cut i opening payments adjustments opening 0
+  pub before-first-year : YearsPassed cut i opening payments adjustments opening 0
   unfolding row-outstanding
   before-first-year = record {
     so-far = none-asked (length payments) (year-of-row cut i opening payments adjustments);
@@ -74,7 +74,7 @@ module _ (cut i : ℕ) (opening : ℤ) (payments adjustments : List ℤ) (right 
       go (yes h) = inl (subst (λ (x : ℤ). natAbs x ≤ natAbs greatest-outstanding) (sym (right .no-opening h)) (omega arith))
       go (no h) = inr (omega arith)
 
-  module _ (outstanding : ℤ) (j : ℕ) (s : Rolled cut i opening payments adjustments outstanding j) where
+  module _ (outstanding : ℤ) (j : ℕ) (s : YearsPassed cut i opening payments adjustments outstanding j) where
     module _ (l : j < length payments) where
       paid : facts.AmountRight cut i (suc j) (getD payments j (pos 0))
       paid = amount-in-row cut i payments (right .payments-right) j l
@@ -103,7 +103,7 @@ module _ (cut i : ℕ) (opening : ℤ) (payments adjustments : List ℤ) (right 
             → in-range-where-known cut i (j + 1) (row-outstanding opening payments adjustments (j + 1)) ≡ b
         asked-of b = subst (λ (x : ℤ). in-range-where-known cut i (j + 1) x ≡ b) next-is
 
-        pub next-year-passed : in-range-where-known cut i (j + 1) next ≡ true → Rolled cut i opening payments adjustments next (j + 1)
+        pub next-year-passed : in-range-where-known cut i (j + 1) next ≡ true → YearsPassed cut i opening payments adjustments next (j + 1)
         unfolding year-of-row
         next-year-passed p = record {
           so-far = next-accepted (s .so-far) l (ask-yes _ 6 (at i (j + 1)) (asked-of true p));

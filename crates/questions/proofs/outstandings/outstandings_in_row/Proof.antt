@@ -11,12 +11,12 @@ use mir.Val.{toZ, ofZ}
 use mir.Facts.{toZ-ofZ}
 use Rattle.integers.proofs.MachineArithmetic.{held}
 use Rattle.questions.specs.Observed.{in-range-where-known}
-use Rattle.questions.proofs.RowOutstandings.{Rolled, before-first-year, movable, next-year-passed, next-year-refused, all-years-passed}
+use Rattle.questions.proofs.RowOutstandings.{YearsPassed, before-first-year, movable, next-year-passed, next-year-refused, all-years-passed}
 use Rattle.questions.proofs.outstandings.outstandings_in_row.Statement.{statement}
 use Rattle.questions.proofs.outstandings.outstandings_in_row.Tie as tie
 
 abbrev Inv-loop : tie.InvT-loop
-Inv-loop cut i opening payments adjustments outstanding₀ j₀ outstanding j = Rolled cut i (toZ w64 opening) payments adjustments (toZ w64 outstanding) j
+Inv-loop cut i opening payments adjustments outstanding₀ j₀ outstanding j = YearsPassed cut i (toZ w64 opening) payments adjustments (toZ w64 outstanding) j
 
 abbrev μ-loop : tie.MeasureT-loop
 μ-loop cut i opening payments adjustments outstanding₀ j₀ outstanding j = length payments - j
@@ -26,7 +26,7 @@ loop-holds c = simp (toZ-ofZ {w = w64} (c .fits .opening)) (before-first-year _ 
 
 -- the walk at a turn
 state : (c : tie.In-loop Inv-loop μ-loop) → let a = c .before .before .args in
-    Rolled (a .cut) (a .i) (a .opening) (a .payments .now) (a .adjustments .now) (toZ w64 (c .before .loop .outstanding)) (c .before .loop .j)
+    YearsPassed (a .cut) (a .i) (a .opening) (a .payments .now) (a .adjustments .now) (toZ w64 (c .before .loop .outstanding)) (c .before .loop .j)
 state c = simp (toZ-ofZ {w = w64} (c .before .before .fits .opening)) at (c .before .loop .inv)
 
 mul-next-outstanding : tie.Need-mul-next-outstanding Inv-loop μ-loop
