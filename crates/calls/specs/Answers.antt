@@ -1,4 +1,4 @@
--- The answers of the calls.
+-- What the calls answer: both lists, and a single cell.
 use mathlib.Core.Path.{_≡_}
 use mathlib.Core.List.{List}
 use lib.IntN.{ℤ, pos}

@@ -56,6 +56,7 @@ pub(crate) struct ProjectedRow {
 }
 
 // Projects accident year i from its last observed outstanding, in whole units, and writes its figures from a place of the future list on.
+// Stops at the first refusal of question 9, and leaves what it has written.
 pub(crate) fn project_row(
     n: usize,
     i: usize,

@@ -31,7 +31,7 @@ pub struct Cell {
     pub outstanding: Millionths,
 }
 
-// A cell of the future list, without the list: questions 1 to 9 are put to the whole triangle, and question 10 to the cell.
+// A cell of the future list, without the list: questions 1 to 9 are put to the whole triangle, and question 10 to the cell. A refused cell holds zeros.
 // What is lent may be anything: n, the cut, the years of the cell and every number any i64, and the lists of any length.
 pub fn single_cell<'a>(
     years: i64,

@@ -29,7 +29,7 @@ pub struct CellAnswer {
     pub outstanding: i64,
 }
 
-// Fills both answer lists, or clears them where it refuses.
+// Fills both answer lists, and answers the verdict. A refused call leaves zeros throughout both.
 #[no_mangle]
 pub extern "C" fn juniperprow_reserve<'a>(
     years: i64,
@@ -58,7 +58,7 @@ pub extern "C" fn juniperprow_reserve<'a>(
     verdict_answer(verdict)
 }
 
-// One unseen cell alone.
+// The verdict on one unseen cell alone, and its three figures. A refused cell holds zeros.
 #[no_mangle]
 pub extern "C" fn juniperprow_single_cell<'a>(
     years: i64,

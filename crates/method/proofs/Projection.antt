@@ -1,4 +1,4 @@
--- The projected outstandings: how an account of a row goes on, that they are not negative, and how the reserves and the closing meet.
+-- The projected outstandings: how an account of a row goes on, that a year leaves none negative, and how the reserves and the closing meet.
 use mathlib.Core.Path.{_≡_, refl, sym, ap, _∙_}
 use Prim.Native.Nat.{ℕ, zero, suc, _+_, _-_, _≤_, _<_}
 use native.Mathlib.Nat.{add-zero}

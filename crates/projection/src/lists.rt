@@ -16,7 +16,7 @@ pub fn write_three(list: &mut [i64], at: usize, first: i64, second: i64, third: 
     list[at + 2] = third;
 }
 
-// Zeros throughout.
+// Fills a list of any length with zeros.
 pub fn clear(list: &mut [i64])
     ensures { λ _. ⌜ now (list .exit) ≡ replicate (length (now (list .entry))) (pos 0) ⌝ }
 {

@@ -21,7 +21,7 @@ pub enum ProjectedYear {
     TooLarge,
 }
 
-// The year after one that ends with this outstanding and has these sums.
+// The year after one that ends with this outstanding and has these sums, or that a figure of it passes the limit of question 9.
 pub fn next_year(outstanding: Millionths, sums: Sums) -> ProjectedYear
     requires { ⌜ YearInput (outstanding .0) (sums-of sums) ⌝ }
     ensures { λ r. ⌜ r ≡ answered (next-year (outstanding .0) (sums-of sums)) ⌝ }

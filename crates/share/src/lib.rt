@@ -18,7 +18,7 @@ pub enum Share {
     TooLarge,
 }
 
-// outstanding × part / exposure, rounded half up.
+// outstanding × part / exposure, rounded half up, or that its size passes the limit of question 9.
 pub fn rounded_share(outstanding: Millionths, part: i64, exposure: i64) -> Share
     requires { ⌜ ShareInput (outstanding .0) part exposure ⌝ }
     ensures { λ r. ⌜ r ≡ answered (share (outstanding .0) part exposure) ⌝ }
@@ -32,6 +32,7 @@ pub fn rounded_share(outstanding: Millionths, part: i64, exposure: i64) -> Share
     Share::Rounded(Millionths(with_sign_of(part, size)))
 }
 
+// Of a share, in millionths: the limit of question 9.
 const GREATEST_SIZE: u64 = 10_000_000_000_000_000;
 
 // ---- Signs

@@ -12,7 +12,7 @@ pub struct ShareAnswer {
     pub value: i64,
 }
 
-// outstanding × part / exposure, rounded half up.
+// outstanding × part / exposure, rounded half up, or why there is no share.
 #[no_mangle]
 pub extern "C" fn juniperprow_share(outstanding: i64, part: i64, exposure: i64) -> ShareAnswer
     ensures { λ r. ⌜ r ≡ share-answer outstanding part exposure ⌝ }

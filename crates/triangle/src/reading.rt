@@ -22,7 +22,7 @@ pub struct Reading {
     pub development: Development,
 }
 
-// The first refusal of questions 1 to 8; where there is none, the ratios and the last observed outstandings.
+// The verdict of questions 1 to 8. Where they accept, the ratios and the last observed outstandings are document 01's; else all are 0.
 // What is lent may be anything: n, the cut and every number any i64, and the lists of any length.
 pub fn read<'a>(
     years: i64,

@@ -8,7 +8,7 @@ use crate::limits::from_to;
 use crate::verdict::Verdict;
 use crate::verdict::asked;
 
-// Whether n is from 2 to 32.
+// The verdict of question 1: whether n is from 2 to 32.
 pub fn question_1(years: i64) -> Verdict
     ensures { λ r. ⌜ verdict-of r ≡ question-1 years ⌝ }
 {

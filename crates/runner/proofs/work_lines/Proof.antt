@@ -1,4 +1,4 @@
--- The invariant says nothing, and each turn starts further on in the text.
+-- Nothing has to hold from turn to turn, and each turn starts further on in the text.
 use Prim.Native.Nat.{_-_}
 use lib.ListN.{length}
 use borrow.Author.Needs.{needs}

@@ -1,4 +1,4 @@
--- Row after row.
+-- Row after row, both lists filling from the left.
 use borrow.Author.Needs.{needs}
 use mathlib.Core.Path.{sym, ap, _∙_}
 use Prim.Native.Nat.{_+_, _-_, _<_}

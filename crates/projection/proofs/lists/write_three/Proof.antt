@@ -1,4 +1,4 @@
--- Three stores.
+-- Three stores, each inside the list.
 use borrow.Author.Needs.{needs}
 use mathlib.Core.Path.{_≡_}
 use Prim.Native.Nat.{suc, _+_}

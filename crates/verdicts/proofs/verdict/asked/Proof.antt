@@ -1,4 +1,4 @@
--- By the answer.
+-- By the answer to the question.
 use mathlib.Core.Path.{sym, _∙_}
 use Rattle.method.specs.Questions.{nowhere}
 use Rattle.method.proofs.FirstRefusal.{ask-yes, ask-no}

@@ -1,4 +1,4 @@
--- One range.
+-- One range, as document 01 asks it.
 use borrow.Author.Needs.{needs}
 use mathlib.Core.Path.{ap, _∙_}
 use mir.Facts.{toZ-ofZ}
