@@ -28,9 +28,9 @@ def case(call, tried, *fields, answer):
 
 
 def amount(millionths):
-    """In units with six decimals."""
+    """In units with six decimals, and a comma between thousands."""
     sign = "-" if millionths < 0 else ""
-    return f"{sign}{abs(millionths) // UNIT}.{abs(millionths) % UNIT:06}"
+    return f"{sign}{abs(millionths) // UNIT:,}.{abs(millionths) % UNIT:06}"
 
 
 def refused(number, place):
@@ -70,7 +70,7 @@ def row(tried, n, payments, adjustments, named, i):
     lengths_right = len(payments) == length and len(adjustments) == length
     number = 1 if not 2 <= n <= 32 else 3 if not lengths_right else 10 if not 1 <= i <= n else 0
     listed = rows({"payments": payments, "adjustments": adjustments}[named], n) if number == 0 else {}
-    numbers = " ".join(str(value) for cell_of, value in listed.items() if cell_of[0] == i)
+    numbers = " ".join(f"{value:,}" for cell_of, value in listed.items() if cell_of[0] == i)
     answer = refused(number, (0, 0)) + ", empty" if number else f"accepted, {numbers}"
     case(named, tried, [n], payments, adjustments, [], [], [i], answer=answer)
 
@@ -275,6 +275,6 @@ number, _, lists = figures(10, 1, differences(TABLE_4), differences(TABLE_5), [1
 LINES.append("Example 1: " + ("refused" if number else "accepted"))
 for i, (paper, computed) in enumerate(zip(numbers_of(TABLE_6), lists[1][::3]), 1):
     within = "within 10" if abs(computed - paper * UNIT) <= 10 * UNIT else "not within 10"
-    LINES.append(f"Example 1, accident year {i}: paper {paper}, computed {amount(computed)}, {within}")
+    LINES.append(f"Example 1, accident year {i}: paper {amount(paper * UNIT)}, computed {amount(computed)}, {within}")
 
 print("\n".join(CASES if sys.argv[1:] == ["--cases"] else LINES))

@@ -2,7 +2,6 @@
 //   reserve|what is tried|n Y|payments|adjustments|weights|openings|lengths of both answer lists, and the place of the reserves to print
 //   cell|what is tried|n Y|payments|adjustments|weights|openings|accident year and development year
 //   payments|what is tried|n|payments|adjustments|||accident year       (and adjustments in the same way)
-ghost use Prim.Native.Nat.{_<_};
 use crate::cell_call::try_cell;
 use crate::numbers::read_numbers;
 use crate::printing::print;
@@ -38,12 +37,7 @@ fn with_lists(line: &[u8]) {
     );
 }
 
-// The first letter.
-fn kind_of(line: &[u8]) -> u8 {
-    if line.len() == 0 { 0 } else { line[0] }
-}
-
-// What the numbers of the last field are goes by the call.
+// The first letter tells the call.
 fn call<'a>(
     line: &[u8],
     payments: &'a [i64],
@@ -51,45 +45,41 @@ fn call<'a>(
     weights: &'a [i64],
     openings: &'a [i64],
 ) {
-    let years = number(line, 2, 0);
-    let cut = number(line, 2, 1);
-    let first = number(line, 7, 0);
-    let second = number(line, 7, 1);
-    let third = number(line, 7, 2);
+    let asked = asked_of(line);
     let kind = kind_of(line);
     match kind {
-        b'r' => try_reserve(
-            years,
-            cut,
-            payments,
-            adjustments,
-            weights,
-            openings,
-            first,
-            second,
-            third,
-        ),
-        b'c' => try_cell(
-            years,
-            cut,
-            payments,
-            adjustments,
-            weights,
-            openings,
-            first,
-            second,
-        ),
-        b'p' => try_row(years, payments, adjustments, AmountList::Payments, first),
-        b'a' => try_row(years, payments, adjustments, AmountList::Adjustments, first),
+        b'r' => try_reserve(asked, payments, adjustments, weights, openings),
+        b'c' => try_cell(asked, payments, adjustments, weights, openings),
+        b'p' => try_row(asked, payments, adjustments, AmountList::Payments),
+        b'a' => try_row(asked, payments, adjustments, AmountList::Adjustments),
         _ => print(b"no such call"),
     }
 }
 
-// A number of a field of few numbers, both counted from 0.
-fn number(line: &[u8], in_field: usize, at: usize) -> i64
-    requires { ⌜ at < 3 ⌝ }
-{
-    let mut numbers = [0; 3];
-    read_numbers(field(line, in_field), &mut numbers);
-    numbers[at]
+fn kind_of(line: &[u8]) -> u8 {
+    if line.len() == 0 { 0 } else { line[0] }
+}
+
+// The numbers of a case that are in no list: n, Y, and those of the last field, which mean what the call takes them for.
+pub(crate) struct Asked {
+    pub(crate) years: i64,
+    pub(crate) cut: i64,
+    pub(crate) first: i64,
+    pub(crate) second: i64,
+    pub(crate) third: i64,
+}
+
+// 0 where a field has fewer numbers.
+fn asked_of(line: &[u8]) -> Asked {
+    let mut size = [0; 2];
+    let mut last = [0; 3];
+    read_numbers(field(line, 2), &mut size);
+    read_numbers(field(line, 7), &mut last);
+    Asked {
+        years: size[0],
+        cut: size[1],
+        first: last[0],
+        second: last[1],
+        third: last[2],
+    }
 }

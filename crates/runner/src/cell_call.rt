@@ -1,30 +1,28 @@
 // One unseen cell alone.
+use crate::case_line::Asked;
 use crate::printing::print_amount;
 use crate::printing::print_verdict;
-use crate::printing::print_zeros;
+use crate::printing::print_whether;
 use calls::single_cell::single_cell;
 use verdicts::verdict::Verdict;
 
 // Prints the verdict, and the cell's figures or whether they are zeros.
 pub(crate) fn try_cell<'a>(
-    years: i64,
-    cut: i64,
+    asked: Asked,
     payments: &'a [i64],
     adjustments: &'a [i64],
     weights: &'a [i64],
     openings: &'a [i64],
-    accident_year: i64,
-    development_year: i64,
 ) {
     let cell = single_cell(
-        years,
-        cut,
+        asked.years,
+        asked.cut,
         payments,
         adjustments,
         weights,
         openings,
-        accident_year,
-        development_year,
+        asked.first,
+        asked.second,
     );
     let verdict = cell.verdict;
     print_verdict(verdict);
@@ -38,7 +36,8 @@ pub(crate) fn try_cell<'a>(
 
 fn print_figures(verdict: Verdict, payment: i64, adjustment: i64, outstanding: i64) {
     let Verdict::Accepted = verdict else {
-        print_zeros((payment == 0) & (adjustment == 0) & (outstanding == 0));
+        let zeros = (payment == 0) & (adjustment == 0) & (outstanding == 0);
+        print_whether(zeros, b"all zeros");
         return;
     };
     print_amount(b", payment ", payment);

@@ -7,7 +7,10 @@ use crate::printing::print;
 use crate::printing::print_amount;
 use crate::printing::print_number;
 use crate::printing::print_verdict;
+use crate::printing::print_whether;
 use calls::reserve::reserve;
+use figures::exact::Exact;
+use figures::exact::difference;
 use verdicts::limits::from_to;
 
 pub(crate) fn compare() {
@@ -32,14 +35,17 @@ pub(crate) fn compare() {
 }
 
 // A cumulated triangle of ten accident years, row after row, as what each year adds.
-fn differences(cumulated: [u32; 55]) -> [i64; 55] {
+fn differences(cumulated: [i64; 55]) -> [i64; 55] {
     let mut increments = [0; 55];
     let mut before = 0;
     let mut cells = 10;
     let mut left = 10;
     let mut at = 0;
     while at < 55 {
-        increments[at] = difference(cumulated[at], before);
+        let Exact::Of(increment) = difference(cumulated[at], before) else {
+            return increments;
+        };
+        increments[at] = increment;
         before = cumulated[at];
         left = one_less(left);
         if left == 0 {
@@ -50,10 +56,6 @@ fn differences(cumulated: [u32; 55]) -> [i64; 55] {
         at += 1;
     }
     increments
-}
-
-fn difference(cumulated: u32, before: u32) -> i64 {
-    cumulated as i64 - before as i64
 }
 
 fn one_less(count: u32) -> u32 {
@@ -68,19 +70,18 @@ fn print_years(reserves: [i64; 30]) {
     }
 }
 
-// The paper's reserve in units, the computed paid-based reserve, and whether they are within 10 units.
-fn print_year(accident_year: i64, paper: u32, computed: i64) {
+// The paper's reserve, the computed paid-based reserve, and whether they are within 10 units.
+fn print_year(accident_year: i64, paper: i64, computed: i64) {
     print_number(b"Example 1, accident year ", accident_year);
-    print_number(b": paper ", paper as i64);
+    print_amount(b": paper ", paper);
     print_amount(b", computed ", computed);
-    if within_10(paper, computed) {
-        print(b", within 10\n");
-    } else {
-        print(b", not within 10\n");
-    }
+    print_whether(within_10(paper, computed), b"within 10");
+    print(b"\n");
 }
 
-fn within_10(units: u32, millionths: i64) -> bool {
-    let exact = units as i64 * 1_000_000;
-    from_to(exact - 10_000_000, exact + 10_000_000, millionths)
+fn within_10(paper: i64, computed: i64) -> bool {
+    let Exact::Of(apart) = difference(paper, computed) else {
+        return false;
+    };
+    from_to(-10_000_000, 10_000_000, apart)
 }

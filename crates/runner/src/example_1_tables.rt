@@ -1,7 +1,7 @@
-// Tables of Example 1 of the 2008 paper, in units.
+// Tables of Example 1 of the 2008 paper.
 
-// Table 4: payments, cumulated.
-pub(crate) const CUMULATED_PAYMENTS: [u32; 55] = [
+// Table 4: payments, cumulated, in units.
+pub(crate) const CUMULATED_PAYMENTS: [i64; 55] = [
     // Accident year 1.
     1_216_632,
     1_347_072,
@@ -69,8 +69,8 @@ pub(crate) const CUMULATED_PAYMENTS: [u32; 55] = [
     841_930,
 ];
 
-// Table 5: reported amounts, cumulated.
-pub(crate) const CUMULATED_REPORTED_AMOUNTS: [u32; 55] = [
+// Table 5: reported amounts, cumulated, in units.
+pub(crate) const CUMULATED_REPORTED_AMOUNTS: [i64; 55] = [
     // Accident year 1.
     3_362_115,
     5_217_243,
@@ -138,16 +138,16 @@ pub(crate) const CUMULATED_REPORTED_AMOUNTS: [u32; 55] = [
     3_045_376,
 ];
 
-// Table 6, last column: reserves by the extended complementary loss ratio method.
-pub(crate) const RESERVES: [u32; 10] = [
+// Table 6, last column: reserves by the extended complementary loss ratio method, in millionths as the engine answers.
+pub(crate) const RESERVES: [i64; 10] = [
     0,
-    314_902,
-    66_994,
-    359_384,
-    981_883,
-    1_115_768,
-    1_786_947,
-    1_942_518,
-    1_569_657,
-    2_590_718,
+    314_902_000_000,
+    66_994_000_000,
+    359_384_000_000,
+    981_883_000_000,
+    1_115_768_000_000,
+    1_786_947_000_000,
+    1_942_518_000_000,
+    1_569_657_000_000,
+    2_590_718_000_000,
 ];

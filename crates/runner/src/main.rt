@@ -22,9 +22,6 @@ fn work_lines(cases: &[u8]) {
     while start < cases.len() {
         let end = text::find(cases, start, b'\n');
         case_line::work(&cases[start..end]);
-        if end == cases.len() {
-            return;
-        }
         start = end + 1;
     }
 }

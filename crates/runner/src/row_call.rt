@@ -1,7 +1,9 @@
 // One accident year's row.
+use crate::case_line::Asked;
 use crate::printing::print;
 use crate::printing::print_number;
 use crate::printing::print_verdict;
+use crate::printing::print_whether;
 use rows::AmountList;
 use rows::row;
 use rows::row_verdict;
@@ -9,18 +11,17 @@ use verdicts::verdict::Verdict;
 
 // Prints the verdict, and the row or whether it is empty.
 pub(crate) fn try_row<'a>(
-    years: i64,
+    asked: Asked,
     payments: &'a [i64],
     adjustments: &'a [i64],
     named: AmountList,
-    accident_year: i64,
 ) {
-    let numbers = row(years, payments, adjustments, named, accident_year);
-    let verdict = row_verdict(years, payments, adjustments, named, accident_year);
+    let numbers = row(asked.years, payments, adjustments, named, asked.first);
+    let verdict = row_verdict(asked.years, payments, adjustments, named, asked.first);
     print_verdict(verdict);
     match verdict {
         Verdict::Accepted => print_numbers(numbers),
-        Verdict::Refused(_, _) => print_empty(numbers),
+        Verdict::Refused(_, _) => print_whether(numbers.len() == 0, b"empty"),
     }
 }
 
@@ -30,13 +31,5 @@ fn print_numbers(numbers: &[i64]) {
     while j < numbers.len() {
         print_number(b" ", numbers[j]);
         j += 1;
-    }
-}
-
-fn print_empty(numbers: &[i64]) {
-    if numbers.len() == 0 {
-        print(b", empty");
-    } else {
-        print(b", not empty");
     }
 }

@@ -1,4 +1,4 @@
--- Nothing has to hold from turn to turn, and each turn starts further on in the text.
+-- The invariant says nothing, and each turn starts further on in the text.
 use Prim.Native.Nat.{_-_}
 use lib.ListN.{length}
 use borrow.Author.Needs.{needs}
@@ -29,9 +29,6 @@ part-work-end c = search needs
 work-requires : tie.Need-work-requires Inv-loop μ-loop
 work-requires c κs = search needs
 
-returns : tie.Need-returns Inv-loop μ-loop
-returns c = search needs
-
 add-start : tie.Need-add-start Inv-loop μ-loop
 add-start c = search needs
 
@@ -41,8 +38,8 @@ loop-less c = search needs
 loop-again : tie.Need-loop-again Inv-loop μ-loop
 loop-again c = search needs
 
-returns-2 : tie.Need-returns-2 Inv-loop μ-loop
-returns-2 c = search needs
+returns : tie.Need-returns Inv-loop μ-loop
+returns c = search needs
 
 pub work-lines-spec : {M : Type 1} → statement M
 work-lines-spec =
@@ -56,8 +53,7 @@ work-lines-spec =
     part-work-start
     part-work-end
     work-requires
-    returns
     add-start
     loop-less
     loop-again
-    returns-2)
+    returns)

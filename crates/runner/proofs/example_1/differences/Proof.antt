@@ -18,11 +18,20 @@ loop-holds c = search needs
 mul-difference : tie.Need-mul-difference Inv-loop μ-loop
 mul-difference c = search needs
 
-array-read-difference : tie.Need-array-read-difference Inv-loop μ-loop
-array-read-difference c = search needs
+array-copy-out-difference : tie.Need-array-copy-out-difference Inv-loop μ-loop
+array-copy-out-difference c = search needs
 
 difference-requires : tie.Need-difference-requires Inv-loop μ-loop
 difference-requires c κs = search needs
+
+enum-known-increment : tie.Need-enum-known-increment Inv-loop μ-loop
+enum-known-increment c = search needs
+
+enum-told : tie.Need-enum-told Inv-loop μ-loop
+enum-told c = search needs
+
+returns : tie.Need-returns Inv-loop μ-loop
+returns c = search needs
 
 mul-increments : tie.Need-mul-increments Inv-loop μ-loop
 mul-increments c = search needs
@@ -33,8 +42,8 @@ array-set-from-increments c = search needs
 mul-before : tie.Need-mul-before Inv-loop μ-loop
 mul-before c = search needs
 
-array-read-before : tie.Need-array-read-before Inv-loop μ-loop
-array-read-before c = search needs
+array-copy-out-before : tie.Need-array-copy-out-before Inv-loop μ-loop
+array-copy-out-before c = search needs
 
 one-less-requires : tie.Need-one-less-requires Inv-loop μ-loop
 one-less-requires c κs = search needs
@@ -51,8 +60,8 @@ loop-less c = search needs
 loop-again : tie.Need-loop-again Inv-loop μ-loop
 loop-again c = search needs
 
-returns : tie.Need-returns Inv-loop μ-loop
-returns c = search needs
+returns-2 : tie.Need-returns-2 Inv-loop μ-loop
+returns-2 c = search needs
 
 pub differences-spec : {M : Type 1} → statement M
 differences-spec =
@@ -62,15 +71,18 @@ differences-spec =
     μ-loop
     loop-holds
     mul-difference
-    array-read-difference
+    array-copy-out-difference
     difference-requires
+    enum-known-increment
+    enum-told
+    returns
     mul-increments
     array-set-from-increments
     mul-before
-    array-read-before
+    array-copy-out-before
     one-less-requires
     one-less-requires-2
     add-at
     loop-less
     loop-again
-    returns)
+    returns-2)

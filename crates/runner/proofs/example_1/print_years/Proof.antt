@@ -22,8 +22,8 @@ cast-print-year c = search needs
 mul-print-year : tie.Need-mul-print-year Inv-loop μ-loop
 mul-print-year c = search needs
 
-array-read-print-year : tie.Need-array-read-print-year Inv-loop μ-loop
-array-read-print-year c = search needs
+array-copy-out-print-year : tie.Need-array-copy-out-print-year Inv-loop μ-loop
+array-copy-out-print-year c = search needs
 
 mul-print-year-2 : tie.Need-mul-print-year-2 Inv-loop μ-loop
 mul-print-year-2 c = search needs
@@ -31,8 +31,8 @@ mul-print-year-2 c = search needs
 mul-print-year-3 : tie.Need-mul-print-year-3 Inv-loop μ-loop
 mul-print-year-3 c = search needs
 
-array-copy-out-print-year : tie.Need-array-copy-out-print-year Inv-loop μ-loop
-array-copy-out-print-year c = search needs
+array-copy-out-print-year-2 : tie.Need-array-copy-out-print-year-2 Inv-loop μ-loop
+array-copy-out-print-year-2 c = search needs
 
 print-year-requires : tie.Need-print-year-requires Inv-loop μ-loop
 print-year-requires c κs = search needs
@@ -59,10 +59,10 @@ print-years-spec =
     add-print-year
     cast-print-year
     mul-print-year
-    array-read-print-year
+    array-copy-out-print-year
     mul-print-year-2
     mul-print-year-3
-    array-copy-out-print-year
+    array-copy-out-print-year-2
     print-year-requires
     add-i
     loop-less

@@ -1,6 +1,6 @@
--- The list keeps its length, the place lies within it, and each turn leaves one byte less.
+-- The list keeps its length, the count stays within it, and each turn starts further on in the field.
 use mathlib.Core.Path.{_≡_}
-use Prim.Native.Nat.{_-_, _<_}
+use Prim.Native.Nat.{_-_, _≤_}
 use lib.ListN.{length, length-set}
 use borrow.Author.Needs.{needs}
 use native.Mathlib.Omega.{arith}
@@ -8,37 +8,52 @@ use Rattle.runner.proofs.numbers.read_numbers.Statement.{statement}
 use Rattle.runner.proofs.numbers.read_numbers.Tie as tie
 
 abbrev Inv-loop : tie.InvT-loop
-Inv-loop field list₀ digits₀ count₀ at₀ list digits count at = (length list ≡ length list₀) × (count < length list₀)
+Inv-loop field list₀ count₀ start₀ t6 list count start = (length list ≡ length list₀) × (count ≤ length list₀)
 
 abbrev μ-loop : tie.MeasureT-loop
-μ-loop field list₀ digits₀ count₀ at₀ list digits count at = length field - at
-
-returns : tie.Need-returns Inv-loop μ-loop
-returns c = search needs
+μ-loop field list₀ count₀ start₀ t6 list count start = length field - start
 
 loop-holds : tie.Need-loop-holds Inv-loop μ-loop
 loop-holds c = search needs
 
-shared-slice-read-byte : tie.Need-shared-slice-read-byte Inv-loop μ-loop
-shared-slice-read-byte c = search needs
+slice-aggregate-print : tie.Need-slice-aggregate-print Inv-loop μ-loop
+slice-aggregate-print c = search needs
 
-place-after-requires : tie.Need-place-after-requires Inv-loop μ-loop
-place-after-requires c κs = search needs
+print-requires : tie.Need-print-requires Inv-loop μ-loop
+print-requires c κs = search needs
 
-and-requires : tie.Need-and-requires Inv-loop μ-loop
-and-requires c κs = search needs
+same-length : tie.Need-same-length Inv-loop μ-loop
+same-length c = search needs
 
-number-requires : tie.Need-number-requires Inv-loop μ-loop
-number-requires c κs = search needs
+returns : tie.Need-returns Inv-loop μ-loop
+returns c = search needs
 
-mul-t9 : tie.Need-mul-t9 Inv-loop μ-loop
-mul-t9 c = search needs
+find-requires : tie.Need-find-requires Inv-loop μ-loop
+find-requires c κs = search needs
+
+sub-number-of : tie.Need-sub-number-of Inv-loop μ-loop
+sub-number-of c = search needs
+
+part-number-of-start : tie.Need-part-number-of-start Inv-loop μ-loop
+part-number-of-start c = search needs
+
+part-number-of-end : tie.Need-part-number-of-end Inv-loop μ-loop
+part-number-of-end c = search needs
+
+number-of-requires : tie.Need-number-of-requires Inv-loop μ-loop
+number-of-requires c κs = search needs
+
+mul-t16 : tie.Need-mul-t16 Inv-loop μ-loop
+mul-t16 c = search needs
 
 slice-set-from-list : tie.Need-slice-set-from-list Inv-loop μ-loop
 slice-set-from-list c = search needs
 
-add-at : tie.Need-add-at Inv-loop μ-loop
-add-at c = search needs
+add-count : tie.Need-add-count Inv-loop μ-loop
+add-count c = search needs
+
+add-start : tie.Need-add-start Inv-loop μ-loop
+add-start c = search needs
 
 loop-less : tie.Need-loop-less Inv-loop μ-loop
 loop-less c = search needs
@@ -46,11 +61,8 @@ loop-less c = search needs
 loop-again : tie.Need-loop-again Inv-loop μ-loop
 loop-again c = simp length-set (omega arith)
 
-add-result : tie.Need-add-result Inv-loop μ-loop
-add-result c = search needs
-
-same-length : tie.Need-same-length Inv-loop μ-loop
-same-length c = search needs
+same-length-2 : tie.Need-same-length-2 Inv-loop μ-loop
+same-length-2 c = search needs
 
 returns-2 : tie.Need-returns-2 Inv-loop μ-loop
 returns-2 c = search needs
@@ -61,17 +73,21 @@ read-numbers-spec =
     (tie.spec
     Inv-loop
     μ-loop
-    returns
     loop-holds
-    shared-slice-read-byte
-    place-after-requires
-    and-requires
-    number-requires
-    mul-t9
+    slice-aggregate-print
+    print-requires
+    same-length
+    returns
+    find-requires
+    sub-number-of
+    part-number-of-start
+    part-number-of-end
+    number-of-requires
+    mul-t16
     slice-set-from-list
-    add-at
+    add-count
+    add-start
     loop-less
     loop-again
-    add-result
-    same-length
+    same-length-2
     returns-2)

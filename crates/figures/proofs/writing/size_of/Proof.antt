@@ -2,9 +2,9 @@
 use mir.Syntax.{w64}
 use mir.Facts.{toZ-ofZ}
 use borrow.Author.Needs.{needs}
-use Rattle.runner.proofs.Sizes.{Negative, negative, unsigned}
-use Rattle.runner.proofs.printing.size.Statement.{statement}
-use Rattle.runner.proofs.printing.size.Tie as tie
+use Rattle.figures.proofs.Sizes.{Negative, negative, unsigned, negative-size}
+use Rattle.figures.proofs.writing.size_of.Statement.{statement}
+use Rattle.figures.proofs.writing.size_of.Tie as tie
 
 below : (c : tie.Then1) → Negative (c .before .args .number)
 below c = negative _ (c .before .fits .number) (simp (toZ-ofZ {w = w64} (c .before .fits .number)) at (c .if1 .taken))
@@ -31,10 +31,12 @@ cast-result-2 c =
     simp (toZ-ofZ (c .before .fits .number)) (unsigned _ (c .before .fits .number) left)
 
 returns : tie.Need-returns
-returns c = search needs
+returns c =
+    let test = simp (toZ-ofZ {w = w64} (c .before .fits .number)) at (c .if1 .taken) in
+    simp (toZ-ofZ (c .before .fits .number), toZ-ofZ (below c .one-above-fits), toZ-ofZ (below c .opposite-fits)) (negative-size (c .before .args .number) test)
 
 returns-2 : tie.Need-returns-2
 returns-2 c = search needs
 
-pub size-spec : {M : Type 1} → statement M
-size-spec = tie.close (tie.spec add-result sub-result cast-result add-result-2 cast-result-2 returns returns-2)
+pub size-of-spec : {M : Type 1} → statement M
+size-of-spec = tie.close (tie.spec add-result sub-result cast-result add-result-2 cast-result-2 returns returns-2)

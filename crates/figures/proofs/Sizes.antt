@@ -1,7 +1,7 @@
 -- A number without its sign. The least number of 64 bits has a size above every positive one, so one is added before the sign is changed.
 use mathlib.Core.Path.{_≡_}
 use mathlib.Core.Bool.{true, false}
-use Prim.Native.Nat.{ℕ, _+_}
+use Prim.Native.Nat.{ℕ, _+_, _^_, _≤_}
 use native.Mathlib.Omega.{arith}
 use lib.Dec.{T}
 use lib.IntN.{ℤ, pos, negsuc, _+ℤ_, _-ℤ_, natAbs}
@@ -33,3 +33,11 @@ negative (negsuc n) f below = record {
 pub unsigned : (x : ℤ) → SFits w64 x → ltZ x (pos 0) ≡ false → T (nonNeg x) × Fits w64 (natAbs x)
 unsigned (pos n) f left = (tt, record { fits = omega (arith, f .sfits) })
 unsigned (negsuc n) f left = absurd (omega (arith, integers))
+
+pub negative-size : (x : ℤ) → ltZ x (pos 0) ≡ true → natAbs (pos 0 -ℤ (x +ℤ pos 1)) + 1 ≡ natAbs x
+negative-size (pos n) below = absurd (omega (arith, integers))
+negative-size (negsuc n) below = rw opposite (omega arith)
+
+pub size-≤ : (x : ℤ) → SFits w64 x → natAbs x ≤ 2 ^ 63
+size-≤ (pos n) f = omega (arith, f .sfits)
+size-≤ (negsuc n) f = omega (arith, f .sfits)
