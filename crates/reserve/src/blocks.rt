@@ -10,7 +10,8 @@ use crate::headings::find_heading;
 use crate::headings::is_cumulated;
 use crate::headings::is_heading;
 use crate::headings::kind_of;
-use crate::lines::cell_end;
+use crate::lines::after;
+use crate::lines::find_byte;
 use crate::lines::line_at;
 use crate::lines::next_line;
 use crate::lines::skip_blanks;
@@ -19,7 +20,6 @@ use crate::malformed::Expected;
 use crate::malformed::Fault;
 use crate::rows_of_text::Entry;
 use crate::rows_of_text::RowRead;
-use crate::rows_of_text::after;
 use crate::rows_of_text::entry_in;
 use crate::rows_of_text::read_row;
 use crate::rows_of_text::wrong_cell;
@@ -232,7 +232,7 @@ fn read_opening_row(
     let mut cell = 0;
     let mut start = 0;
     while skip_blanks(line, start, separator) < line.len() {
-        let end = cell_end(line, start, separator);
+        let end = find_byte(line, start, separator);
         cell += 1;
         if count == list.len() {
             return LineRead {

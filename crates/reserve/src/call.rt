@@ -5,9 +5,9 @@ use crate::counts::cells_in;
 use crate::counts::count_of;
 use crate::counts::larger;
 use crate::counts::less;
+use crate::messages::print_with_numbers;
 use crate::printing::print;
 use crate::printing::print_entry;
-use crate::printing::print_signed;
 use crate::refusals::print_refusal;
 use crate::reserve_table::print_reserves;
 use crate::sums_table::print_sums;
@@ -77,9 +77,11 @@ fn call_cell<'a>(
 
 fn print_cell(asked: Asked, payment: i64, adjustment: i64, outstanding: i64) {
     print_accepted(asked);
-    print_signed(b"\nAccident year ", asked.accident_year);
-    print_signed(b" in development year ", asked.development_year);
-    print(b", in units\n");
+    print_with_numbers(
+        b"\nAccident year @ in development year @, in units\n",
+        asked.accident_year,
+        asked.development_year,
+    );
     let paid = amount(payment);
     let adjusted = amount(adjustment);
     let left = amount(outstanding);
@@ -94,9 +96,11 @@ fn print_cell(asked: Asked, payment: i64, adjustment: i64, outstanding: i64) {
 }
 
 fn print_accepted(asked: Asked) {
-    print_signed(b"accepted: ", asked.years);
-    print_signed(b" accident years, cut ", asked.cut);
-    print(b"\n");
+    print_with_numbers(
+        b"accepted: @ accident years, cut @\n",
+        asked.years,
+        asked.cut,
+    );
 }
 
 // Makes the two answer lists, of the lengths that an accepted call wants.

@@ -1,5 +1,6 @@
 // Lines, cells and words of a text.
-ghost use Prim.Native.Nat.{_≤_, _<_};
+ghost use mathlib.Core.Path.{_≡_};
+ghost use Prim.Native.Nat.{_+_, _≤_, _<_, min};
 ghost use lib.ListN.{length};
 
 // The first comma, semicolon or tab that is in no comment; a comma where there is none.
@@ -30,8 +31,7 @@ pub(crate) fn next_line(text: &[u8], start: usize) -> usize
     requires { ⌜ start < length (now text) ⌝ }
     ensures { λ r. ⌜ (start < r) × (r ≤ length (now (text .entry))) ⌝ }
 {
-    let end = find(text, start, text.len(), Sought::Byte(b'\n'));
-    if end < text.len() { end + 1 } else { end }
+    after(text, find_byte(text, start, b'\n'))
 }
 
 // The line that starts here, without its end and its comment.
@@ -48,7 +48,7 @@ fn content_end(text: &[u8], start: usize) -> usize
     requires { ⌜ start ≤ length (now text) ⌝ }
     ensures { λ r. ⌜ (start ≤ r) × (r ≤ length (now (text .entry))) ⌝ }
 {
-    let end = find(text, start, text.len(), Sought::Byte(b'\n'));
+    let end = find_byte(text, start, b'\n');
     if end == text.len() {
         return end;
     }
@@ -88,6 +88,22 @@ fn is_sought(byte: u8, sought: Sought) -> bool {
         Sought::SpaceOr(other) => (byte == b' ') | (byte == other),
         Sought::NeitherSpaceNor(other) => (byte != b' ') & (byte != other),
     }
+}
+
+// The first place from a start on that holds this byte, or the end of the text.
+pub(crate) fn find_byte(text: &[u8], start: usize, byte: u8) -> usize
+    requires { ⌜ start ≤ length (now text) ⌝ }
+    ensures { λ r. ⌜ (start ≤ r) × (r ≤ length (now (text .entry))) ⌝ }
+{
+    find(text, start, text.len(), Sought::Byte(byte))
+}
+
+// The place after this one, or the end of the text.
+pub(crate) fn after(text: &[u8], at: usize) -> usize
+    requires { ⌜ at ≤ length (now text) ⌝ }
+    ensures { λ r. ⌜ r ≡ min (at + 1) (length (now (text .entry))) ⌝ }
+{
+    if at < text.len() { at + 1 } else { at }
 }
 
 // The first place from a start on that is no blank: neither a space nor the separator; or the end of the line.
@@ -138,14 +154,6 @@ pub(crate) fn is_letter(byte: u8) -> bool {
         b'a'..=b'z' => true,
         _ => false,
     }
-}
-
-// Where the cell that starts here ends: at its separator, or with the line.
-pub(crate) fn cell_end(line: &[u8], start: usize, separator: u8) -> usize
-    requires { ⌜ start ≤ length (now line) ⌝ }
-    ensures { λ r. ⌜ (start ≤ r) × (r ≤ length (now (line .entry))) ⌝ }
-{
-    find(line, start, line.len(), Sought::Byte(separator))
 }
 
 // A cell, from its start to its end, without the spaces around it.

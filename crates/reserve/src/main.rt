@@ -8,6 +8,7 @@ mod counts;
 mod headings;
 mod lines;
 mod malformed;
+mod messages;
 mod printing;
 mod refusals;
 mod reserve_table;

@@ -1,6 +1,8 @@
 // What is printed of a text that is malformed: the line, the cell and what was expected there.
+use crate::messages::print_message;
+use crate::messages::print_with_numbers;
 use crate::printing::print;
-use crate::printing::print_number;
+use crate::printing::signed;
 
 pub(crate) enum Expected {
     HeadingBeforeRow,
@@ -35,39 +37,54 @@ pub(crate) fn first_of(first: Fault, second: Fault) -> Fault {
 }
 
 pub(crate) fn print_fault(line: usize, cell: usize, expected: Expected) {
-    print_number(b"refused: line ", line);
+    print_with_numbers(b"refused: line @", signed(line), 0);
     if cell > 0 {
-        print_number(b", cell ", cell);
+        print_with_numbers(b", cell @", signed(cell), 0);
     }
     print(b": expected ");
     print_expected(expected);
-    print(b"\n");
 }
 
 fn print_expected(expected: Expected) {
+    print_message(
+        b"payments, adjustments, weights or openings before a row
+payments, adjustments, weights, openings, cut, cell or a row of whole numbers
+this heading only once
+nothing, cumulated or incremental after this heading
+nothing after this heading
+one whole number after cut
+an accident year and a development year after cell
+incremental figures, for the cut is above 1
+no further row
+no further opening
+a whole number, for only a missing cell is blank
+a whole number, such as 1234 or -1234
+a number of at most 64 bits
+a figure whose difference from the one before has at most 64 bits
+nothing, for the row ends before this cell",
+        line_of(expected),
+        0,
+        0,
+    );
+}
+
+// The line of `print_expected` that says what was expected.
+fn line_of(expected: Expected) -> usize {
     match expected {
-        Expected::HeadingBeforeRow => {
-            print(b"payments, adjustments, weights or openings before a row")
-        }
-        Expected::KnownHeading => print(
-            b"payments, adjustments, weights, openings, cut, cell or a row of whole numbers",
-        ),
-        Expected::HeadingOnce => print(b"this heading only once"),
-        Expected::CumulatedOrNothing => {
-            print(b"nothing, cumulated or incremental after this heading")
-        }
-        Expected::NothingAfterHeading => print(b"nothing after this heading"),
-        Expected::NumberAfterCut => print(b"one whole number after cut"),
-        Expected::YearsAfterCell => print(b"an accident year and a development year after cell"),
-        Expected::Incremental => print(b"incremental figures, for the cut is above 1"),
-        Expected::NoFurtherRow => print(b"no further row"),
-        Expected::NoFurtherOpening => print(b"no further opening"),
-        Expected::NumberForBlank => print(b"a whole number, for only a missing cell is blank"),
-        Expected::WholeNumber => print(b"a whole number, such as 1234 or -1234"),
-        Expected::SixtyFourBits => print(b"a number of at most 64 bits"),
-        Expected::DifferenceOfSixtyFourBits => {
-            print(b"a figure whose difference from the one before has at most 64 bits")
-        }
-        Expected::RowEnd => print(b"nothing, for the row ends before this cell"),
+        Expected::HeadingBeforeRow => 0,
+        Expected::KnownHeading => 1,
+        Expected::HeadingOnce => 2,
+        Expected::CumulatedOrNothing => 3,
+        Expected::NothingAfterHeading => 4,
+        Expected::NumberAfterCut => 5,
+        Expected::YearsAfterCell => 6,
+        Expected::Incremental => 7,
+        Expected::NoFurtherRow => 8,
+        Expected::NoFurtherOpening => 9,
+        Expected::NumberForBlank => 10,
+        Expected::WholeNumber => 11,
+        Expected::SixtyFourBits => 12,
+        Expected::DifferenceOfSixtyFourBits => 13,
+        Expected::RowEnd => 14,
     }
 }

@@ -8,14 +8,7 @@ pub(crate) fn print(text: &[u8]) {
     io::write_all(STDOUT_FILENO, text);
 }
 
-// A text, and a count after it.
-pub(crate) fn print_number(text: &[u8], count: usize) {
-    print_signed(text, signed(count));
-}
-
-// A text, and a number after it.
-pub(crate) fn print_signed(text: &[u8], number: i64) {
-    print(text);
+pub(crate) fn print_whole(number: i64) {
     print_written(whole(number));
 }
 

@@ -1,9 +1,9 @@
 // One row of numbers in a text.
-ghost use mathlib.Core.Path.{_≡_};
-ghost use Prim.Native.Nat.{_+_, _≤_, _<_, min};
+ghost use Prim.Native.Nat.{_≤_, _<_};
 ghost use lib.ListN.{length};
 use crate::counts::one_if;
-use crate::lines::cell_end;
+use crate::lines::after;
+use crate::lines::find_byte;
 use crate::lines::skip_blanks;
 use crate::lines::trimmed;
 use crate::malformed::Expected;
@@ -31,7 +31,7 @@ pub(crate) fn read_row(
     let mut before = 0;
     let mut k = 0;
     while k < row.len() {
-        let end = cell_end(line, start, separator);
+        let end = find_byte(line, start, separator);
         let entry = entry_in(trimmed(line, start, end), k < missing, cumulated, before);
         let Entry::Amount(amount, figure) = entry else {
             return wrong_cell(k + 1, entry);
@@ -84,14 +84,6 @@ fn entry_of(number: i64, cumulated: bool, before: i64) -> Entry {
         Exact::Of(increment) => Entry::Amount(increment, number),
         Exact::TooLarge => Entry::Wrong(Expected::DifferenceOfSixtyFourBits),
     }
-}
-
-// The place after this one, or the end of the line.
-pub(crate) fn after(line: &[u8], at: usize) -> usize
-    requires { ⌜ at ≤ length (now line) ⌝ }
-    ensures { λ r. ⌜ r ≡ min (at + 1) (length (now (line .entry))) ⌝ }
-{
-    if at < line.len() { at + 1 } else { at }
 }
 
 // The row has ended, and nothing but blank cells may follow.

@@ -18,8 +18,8 @@ loop-holds c = search needs
 skip-blanks-requires : tie.Need-skip-blanks-requires Inv-loop μ-loop
 skip-blanks-requires c κs = search needs
 
-cell-end-requires : tie.Need-cell-end-requires Inv-loop μ-loop
-cell-end-requires c κs = search needs
+find-byte-requires : tie.Need-find-byte-requires Inv-loop μ-loop
+find-byte-requires c κs = search needs
 
 add-cell : tie.Need-add-cell Inv-loop μ-loop
 add-cell c = search needs
@@ -83,7 +83,7 @@ read-opening-row-spec =
     μ-loop
     loop-holds
     skip-blanks-requires
-    cell-end-requires
+    find-byte-requires
     add-cell
     same-length
     returns

@@ -15,8 +15,8 @@ abbrev μ-loop : tie.MeasureT-loop
 loop-holds : tie.Need-loop-holds Inv-loop μ-loop
 loop-holds c = search needs
 
-cell-end-requires : tie.Need-cell-end-requires Inv-loop μ-loop
-cell-end-requires c κs = search needs
+find-byte-requires : tie.Need-find-byte-requires Inv-loop μ-loop
+find-byte-requires c κs = search needs
 
 trimmed-requires : tie.Need-trimmed-requires Inv-loop μ-loop
 trimmed-requires c κs = search needs
@@ -76,7 +76,7 @@ read-row-spec =
     Inv-loop
     μ-loop
     loop-holds
-    cell-end-requires
+    find-byte-requires
     trimmed-requires
     entry-in-requires
     enum-known-entry
