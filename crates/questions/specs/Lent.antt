@@ -2,11 +2,11 @@
 use mathlib.Core.Path.{_≡_}
 use mathlib.Core.Bool.{Bool}
 use mathlib.Core.List.{List}
-use Prim.Native.Nat.{ℕ, _-_, _≤_, _<_}
+use Prim.Native.Nat.{ℕ, _≤_, _<_}
 use lib.IntN.{ℤ, pos}
-use lib.ListN.{length, take, drop}
+use lib.ListN.{length}
 use Rattle.method.specs.Limits.{most-accident-years}
-use Rattle.method.specs.Triangle.{Triangle, amounts-length, weights-length, openings-length, cells-before}
+use Rattle.method.specs.Triangle.{Triangle, amounts-length, weights-length, openings-length}
 use Rattle.method.specs.Questions.{input-lengths-right, lengths-right}
 use Rattle.questions.specs.declared.inputs.AnswerLists.{AnswerLists}
 use Rattle.questions.specs.declared.inputs.AnswerLists.the-variants.{NotLent, OfLengths}
@@ -29,10 +29,6 @@ counted n cut = lent (pos n) (pos cut)
 abbrev pub lists-right : Triangle → AnswerLists → Bool
 lists-right t NotLent = input-lengths-right t
 lists-right t (OfLengths future reserves) = lengths-right t future reserves
-
--- row r + 1 of a list whose rows have n, n − 1, … cells
-abbrev pub row-part : ℕ → ℕ → List ℤ → List ℤ
-row-part n r xs = take (n - r) (drop (cells-before n r) xs)
 
 -- what questions 1 to 3 leave
 pub record ListsLent (n cut : ℕ) (payments adjustments weights openings : List ℤ) : Type 0 where

@@ -1,4 +1,2 @@
 -- What the contracts of this crate say, in the words of the crate `method`.
 pub mod Lent
-pub mod Cells
-pub mod Observed

@@ -20,7 +20,7 @@ use Rattle.method.specs.Outstandings.{Sums}
 use Rattle.method.proofs.Positions.{cells-before-none, cells-before-more, cell-of-place, entry-at, cell-inside, weights-length-is}
 use Rattle.method.proofs.Sums.{sum-none, sum-more}
 use Rattle.method.proofs.SumBounds.{term-size, few-terms}
-use Rattle.questions.specs.Observed.{Movable}
+use Rattle.outstandings.specs.Observed.{Movable}
 use Rattle.triangle.proofs.Places.{one-more-place}
 use Rattle.triangle.specs.Ratios.{partial-sums, MovedOn, YearInput, with-row, Summable, Addable}
 

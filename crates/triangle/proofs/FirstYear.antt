@@ -11,7 +11,7 @@ use lib.Seq.{getD-set-other}
 use Rattle.method.specs.Limits.{greatest-amount, most-accident-years}
 use Rattle.method.specs.Triangle.{amounts-length, cells-before, cell, entry}
 use Rattle.method.proofs.Positions.{cells-before-none, cells-before-more, cell-of-place, cell-inside}
-use Rattle.questions.specs.Observed.{Movable}
+use Rattle.outstandings.specs.Observed.{Movable}
 use Rattle.triangle.specs.Ratios.{FirstYear, FirstOutstandings}
 use Rattle.triangle.proofs.Places.{blank, one-more-place}
 

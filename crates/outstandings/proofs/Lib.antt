@@ -1,0 +1,3 @@
+-- Laws that serve several functions, from below.
+pub mod RowOutstandings
+pub mod ObservedRows
