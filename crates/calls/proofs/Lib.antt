@@ -4,6 +4,3 @@ pub mod RowsLoop
 pub mod OfTriangle
 pub mod ReadTriangles
 pub mod BothLists
-pub mod CellYears
-pub mod UnseenCells
-pub mod WholeCells

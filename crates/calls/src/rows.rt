@@ -48,7 +48,7 @@ pub(crate) fn project(
 }
 
 // The verdict of question 9 on an accident year, and its reserves; zeros where it is refused.
-pub(crate) struct ProjectedRow {
+pub struct ProjectedRow {
     pub verdict: Verdict,
     pub paid: Millionths,
     pub incurred: Millionths,
@@ -57,7 +57,7 @@ pub(crate) struct ProjectedRow {
 
 // Projects accident year i from its last observed outstanding, in whole units, and writes its figures from a place of the future list on.
 // Stops at the first refusal of question 9, and leaves what it has written.
-pub(crate) fn project_row(
+pub fn project_row(
     n: usize,
     i: usize,
     ratios: [Sums; DEVELOPMENT_YEARS],

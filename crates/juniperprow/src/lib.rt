@@ -7,9 +7,9 @@ ghost use Rattle.verdicts.specs.Verdicts.{verdict-of};
 ghost use Rattle.questions.specs.Lent.{lent};
 ghost use Rattle.juniperprow.specs.HostAnswers.{verdict-answer, cell-answer, ReserveAnswered};
 use calls::reserve::reserve;
-use calls::single_cell::single_cell;
 use rows::AmountList;
 use rows::row_verdict;
+use single_cell::single_cell;
 use verdicts::verdict::Verdict;
 
 // The number of the question that refused the call, and the place; all 0 where it is accepted. In C: juniperprow_verdict.

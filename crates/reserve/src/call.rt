@@ -12,9 +12,9 @@ use crate::refusals::print_refusal;
 use crate::reserve_table::print_reserves;
 use crate::sums_table::print_sums;
 use calls::reserve::reserve;
-use calls::single_cell::single_cell;
 use figures::writing::amount;
 use questions::inputs::AnswerLists;
+use single_cell::single_cell;
 use triangle::reading::read;
 use verdicts::verdict::Verdict;
 

@@ -3,7 +3,7 @@ use crate::case_line::Asked;
 use crate::printing::print_amount;
 use crate::printing::print_verdict;
 use crate::printing::print_whether;
-use calls::single_cell::single_cell;
+use single_cell::single_cell;
 use verdicts::verdict::Verdict;
 
 // Prints the verdict, and the cell's figures or whether they are zeros.

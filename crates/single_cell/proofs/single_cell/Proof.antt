@@ -14,12 +14,12 @@ use Rattle.verdicts.proofs.Counts.{count-fits}
 use Rattle.questions.specs.declared.inputs.AnswerLists.the-variants.{NotLent}
 use Rattle.questions.specs.Lent.{lent}
 use Rattle.triangle.specs.Reading.{ReadingOf}
-use Rattle.calls.specs.Cells.{CellAccepted}
 use Rattle.calls.proofs.OfTriangle.{question-9-is}
 use Rattle.calls.proofs.ReadTriangles.{observed, was-read, can-be-projected, with-question-9, question-1-passed}
-use Rattle.calls.proofs.WholeCells.{cell-accepted, movement-in-triangle, refused-whole, accepted-whole}
-use Rattle.calls.proofs.single_cell.single_cell.Statement.{statement}
-use Rattle.calls.proofs.single_cell.single_cell.Tie as tie
+use Rattle.single_cell.specs.Cells.{CellAccepted}
+use Rattle.single_cell.proofs.WholeCells.{cell-accepted, movement-in-triangle, refused-whole, accepted-whole}
+use Rattle.single_cell.proofs.single_cell.Statement.{statement}
+use Rattle.single_cell.proofs.single_cell.Tie as tie
 
 -- the triangle that is lent
 abbrev triangle : tie.Start → Triangle

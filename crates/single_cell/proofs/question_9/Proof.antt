@@ -8,10 +8,10 @@ use lib.ListN.{length, getD}
 use Rattle.integers.proofs.MachineArithmetic.{Held, held}
 use Rattle.method.proofs.FirstRefusal.{PassedSoFar, none-asked, next-accepted, next-refused, all-accepted}
 use Rattle.verdicts.specs.Verdicts.{verdict-of}
 use Rattle.calls.specs.Rows.{verdict-of-row}
 use Rattle.calls.proofs.RowsLoop.{row-input, row-verdict-is}
-use Rattle.calls.proofs.single_cell.question_9.Statement.{statement}
-use Rattle.calls.proofs.single_cell.question_9.Tie as tie
+use Rattle.single_cell.proofs.question_9.Statement.{statement}
+use Rattle.single_cell.proofs.question_9.Tie as tie
 
 abbrev Inv-loop : tie.InvT-loop
 Inv-loop n ratios outstandings figures₀ r₀ figures r = PassedSoFar n (verdict-of-row n ratios outstandings) r × (length figures ≡ 93)

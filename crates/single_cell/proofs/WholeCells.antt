@@ -15,11 +15,11 @@ use Rattle.method.proofs.QuestionFacts.{UnseenCell}
 use Rattle.method.proofs.Positions.{entry-at}
 use Rattle.triangle.specs.declared.ratios.Sums.{Sums}
 use Rattle.triangle.specs.Ratios.{DevelopmentOf}
 use Rattle.calls.specs.Rows.{projected-year, row-question, row-verdict, observed-of, verdict-of-row, RowInput, Projectable}
-use Rattle.calls.specs.Cells.{CellInput, cell-movement, CellAccepted}
-use Rattle.calls.specs.Answers.{accepted-cell, refused-cell}
 use Rattle.calls.proofs.RowLoop.{RowInMillionths, in-millionths}
 use Rattle.calls.proofs.OfTriangle.{year-is}
+use Rattle.single_cell.specs.Cells.{CellInput, cell-movement, CellAccepted}
+use Rattle.single_cell.specs.Answers.{accepted-cell, refused-cell}
 
 -- ---- An accepted cell of what was read
 

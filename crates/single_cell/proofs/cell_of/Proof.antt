@@ -9,11 +9,11 @@ use Rattle.integers.proofs.MachineArithmetic.{Held, held}
 use Rattle.method.specs.Questions.{accepted}
 use Rattle.method.specs.Answers.{CellAnswer}
 use Rattle.projection.specs.declared.year.Movement.{Movement}
 use Rattle.calls.specs.Rows.{observed-of}
 use Rattle.calls.proofs.RowLoop.{units-small}
-use Rattle.calls.proofs.WholeCells.{row-of-cell, in-units, later-year, cell-input}
-use Rattle.calls.proofs.single_cell.cell_of.Statement.{statement}
-use Rattle.calls.proofs.single_cell.cell_of.Tie as tie
+use Rattle.single_cell.proofs.WholeCells.{row-of-cell, in-units, later-year, cell-input}
+use Rattle.single_cell.proofs.cell_of.Statement.{statement}
+use Rattle.single_cell.proofs.cell_of.Tie as tie
 
 observed-read : (c : tie.After-from-units-arg) → let a = c .before .before .before .args in Held (getD (a .development .outstandings) (a .i - 1) (pos 0))
 observed-read c = let a = c .before .before .before .args in held (getD (a .development .outstandings) (a .i - 1) (pos 0)) (c .from-units-arg .given)

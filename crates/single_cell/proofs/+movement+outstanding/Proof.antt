@@ -6,16 +6,16 @@ use Prim.Native.Nat.{ℕ, _+_, _<_}
 use borrow.Fn.Kinds.{In}
 use borrow.Fn.PlainCycle.{Measures, is, falls, and}
 use Rattle.projection.specs.declared.year.Movement.{Movement}
-use Rattle.calls.proofs.CellYears.{later-than, at-last, before, from-movement, year-input, never-too-large, answered-movement}
-use Rattle.calls.proofs.single_cell.movement.Reads as movement
-use Rattle.calls.proofs.single_cell.movement.Kinds as movement-kinds
-use Rattle.calls.proofs.single_cell.+movement+outstanding.Lts-movement as movement-lts
-use Rattle.calls.proofs.single_cell.outstanding.Reads as outstanding
-use Rattle.calls.proofs.single_cell.outstanding.Kinds as outstanding-kinds
-use Rattle.calls.proofs.single_cell.+movement+outstanding.Lts-outstanding as outstanding-lts
+use Rattle.single_cell.proofs.CellYears.{later-than, at-last, before, from-movement, year-input, never-too-large, answered-movement}
+use Rattle.single_cell.proofs.movement.Reads as movement
+use Rattle.single_cell.proofs.movement.Kinds as movement-kinds
+use Rattle.single_cell.proofs.+movement+outstanding.Lts-movement as movement-lts
+use Rattle.single_cell.proofs.outstanding.Reads as outstanding
+use Rattle.single_cell.proofs.outstanding.Kinds as outstanding-kinds
+use Rattle.single_cell.proofs.+movement+outstanding.Lts-outstanding as outstanding-lts
 use Rattle.projection.proofs.year.next_year.Reads as next-year-reads
-use Rattle.calls.proofs.single_cell.+movement+outstanding.{statement}
-use Rattle.calls.proofs.single_cell.+movement+outstanding.Tie.{close}
+use Rattle.single_cell.proofs.+movement+outstanding.{statement}
+use Rattle.single_cell.proofs.+movement+outstanding.Tie.{close}
 
 -- twice the development year, and one more for the outstanding, which is taken from the movement of the same year
 abbrev μ-movement : Measures 0 movement-kinds.ps ℕ

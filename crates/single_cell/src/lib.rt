@@ -1,4 +1,4 @@
-// One unseen cell alone.
+// One unseen cell alone, as a desk asks for it.
 ghost use mathlib.Core.Path.{_≡_};
 ghost use Prim.Native.Nat.{_<_};
 ghost use Rattle.method.specs.Questions.{accepted, first-to, question-1, cell-unseen};
@@ -6,10 +6,10 @@ ghost use Rattle.method.specs.Answers.{single-cell};
 ghost use Rattle.verdicts.specs.Verdicts.{verdict-of};
 ghost use Rattle.questions.specs.Lent.{lent};
 ghost use Rattle.projection.specs.Year.{movement-of};
 ghost use Rattle.calls.specs.Rows.{Projectable, verdict-of-row};
-ghost use Rattle.calls.specs.Cells.{CellInput, outstanding-of, movement-of-year, CellAccepted, cell-movement};
-ghost use Rattle.calls.specs.Answers.{cell-of, accepted-cell, refused-cell};
-use crate::rows::project_row;
+ghost use Rattle.single_cell.specs.Cells.{CellInput, outstanding-of, movement-of-year, CellAccepted, cell-movement};
+ghost use Rattle.single_cell.specs.Answers.{cell-of, accepted-cell, refused-cell};
+use calls::rows::project_row;
 use projection::year::Movement;
 use projection::year::ProjectedYear;
 use projection::year::next_year;

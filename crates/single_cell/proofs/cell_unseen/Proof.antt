@@ -5,9 +5,9 @@ use lib.IntN.{pos}
 use mir.Facts.{toZ-ofZ}
 use Rattle.method.specs.Questions.{from-to}
 use Rattle.method.proofs.QuestionFacts.{YearsInRange, years-accepted}
-use Rattle.calls.proofs.UnseenCells.{in-range-unseen, out-of-range-unseen, years-fit, first-unseen-fits}
-use Rattle.calls.proofs.single_cell.cell_unseen.Statement.{statement}
-use Rattle.calls.proofs.single_cell.cell_unseen.Tie as tie
+use Rattle.single_cell.proofs.UnseenCells.{in-range-unseen, out-of-range-unseen, years-fit, first-unseen-fits}
+use Rattle.single_cell.proofs.cell_unseen.Statement.{statement}
+use Rattle.single_cell.proofs.cell_unseen.Tie as tie
 
 years-right : (s : tie.Start) → YearsInRange (s .args .years)
 years-right s = years-accepted (s .args .years) (s .pre)

@@ -22,8 +22,8 @@ use Rattle.projection.specs.declared.year.Movement.{Movement}
 use Rattle.projection.specs.declared.year.ProjectedYear.the-variants.{Within, TooLarge}
 use Rattle.projection.specs.Year.{YearInput, answered, movement-of}
 use Rattle.projection.proofs.Years.{within-is, too-large-year}
 use Rattle.calls.specs.Rows.{sums-at, outstanding-after, projected-year}
-use Rattle.calls.specs.Cells.{CellInput, outstanding-of, movement-of-year}
+use Rattle.single_cell.specs.Cells.{CellInput, outstanding-of, movement-of-year}
 
 pub later-than : {last year : ℕ} → last ≤ year → (year ≡ last → ⊥) → last < year
 later-than {last} {year} h d = go (decLe (suc last) year)
