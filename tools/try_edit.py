@@ -35,8 +35,16 @@ def change(path, pairs):
     path.write_text(text)
 
 
-def first_errors(output):
-    return [line for line in output.splitlines() if " error" in line or line.startswith("rattle: error")]
+def first_error(output):
+    """The first error with the indented lines that go on with it, shortened."""
+    lines = output.splitlines()
+    starts = [at for at, line in enumerate(lines) if " error" in line or line.startswith("rattle: error")]
+    if not starts:
+        return output[-800:]
+    end = starts[0] + 1
+    while end < len(lines) and lines[end].startswith("  "):
+        end += 1
+    return "\n".join(lines[starts[0]:end])[:800]
 
 
 def try_edit(crate, reason, file, pairs):
@@ -57,8 +65,7 @@ def try_edit(crate, reason, file, pairs):
         output = (checked.stdout + checked.stderr).replace(f"{copy}/", "")
     if checked.returncode == 0:
         sys.exit("The checker accepts it.")
-    errors = first_errors(output)
-    print(f"Refused. {errors[0][:400] if errors else output[-400:]}")
+    print(f"Refused. {first_error(output)}")
 
 
 if __name__ == "__main__":

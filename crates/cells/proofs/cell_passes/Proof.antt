@@ -1,4 +1,6 @@
 -- By the case of the test.
+use mathlib.Core.Bool.{_&&_}
+use mathlib.Core.Path.{ap₂}
 use mir.Facts.{toZ-ofZ}
 use borrow.Author.Needs.{needs}
 use Rattle.cells.proofs.cell_passes.Statement.{statement}
@@ -35,7 +37,7 @@ returns-2 : tie.Need-returns-2
 returns-2 c =
     let in-range = simp (toZ-ofZ (c .before .before .before .before .fits .x)) at (c .before .from-to2 .ensures) in
     let zero-up-to-cut = simp (toZ-ofZ (c .before .before .before .before .fits .x)) at (c .zero-up-to-cut .ensures) in
-    simp (c .before .before .enum-told2 .given .1, in-range, zero-up-to-cut)
+    simp (c .before .before .enum-told2 .given .1) (ap₂ _&&_ in-range zero-up-to-cut)
 
 returns-3 : tie.Need-returns-3
 returns-3 c = simp (c .before .enum-told3 .given .1) (simp (toZ-ofZ (c .before .before .before .fits .x)) at (c .zero-up-to-cut2 .ensures))

@@ -1,4 +1,5 @@
 -- The two cases of a verdict.
+use mathlib.Core.Path.{refl}
 use borrow.Author.Needs.{needs}
 use native.Mathlib.Omega.{arith}
 use mir.Syntax.{w64}
@@ -20,7 +21,7 @@ cast-t5 c = search needs
 
 returns : tie.Need-returns
 unfolding verdict-answer number place
-returns c = rw (c .enum-told .given .1)
+returns c = rw (c .enum-told .given .1) refl
 
 returns-2 : tie.Need-returns-2
 unfolding verdict-answer number place
@@ -32,7 +33,7 @@ returns-2 c =
       toZ-pos w64 {n = v .0 .0} (omega arith),
       held (p .«accident_year») (c .struct-told .given .0 .1),
       held (p .«development_year») (c .struct-told .given .1 .0 .1),
-    )
+    ) refl
 
 pub verdict-answer-spec : {M : Type 1} → statement M
 verdict-answer-spec = tie.close (tie.spec enum-told enum-known-verdict cast-t5 returns returns-2)

@@ -1,6 +1,6 @@
 -- By the case of the share.
 use borrow.Author.Needs.{needs}
-use mathlib.Core.Path.{_≡_}
+use mathlib.Core.Path.{_≡_, refl}
 use Rattle.integers.proofs.MachineArithmetic.{held}
 use Rattle.share.specs.declared.Share.the-variants.{Rounded, TooLarge}
 use Rattle.share_benchmark.proofs.answer_of.Statement.{statement}
@@ -21,7 +21,7 @@ returns c =
 returns-2 : tie.Need-returns-2
 returns-2 c =
     let same : c .before .before .args .share ≡ TooLarge = cc in
-    rw same
+    rw same refl
 
 pub answer-of-spec : {M : Type 1} → statement M
 answer-of-spec = tie.close (tie.spec enum-known-share enum-told returns returns-2)

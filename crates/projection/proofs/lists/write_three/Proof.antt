@@ -1,6 +1,6 @@
 -- Three stores, each inside the list.
 use borrow.Author.Needs.{needs}
-use mathlib.Core.Path.{_≡_}
+use mathlib.Core.Path.{_≡_, refl}
 use Prim.Native.Nat.{suc, _+_}
 use native.Mathlib.Omega.{arith}
 use lib.ListN.{length-set}
@@ -40,7 +40,7 @@ returns c =
     let a = c .args in
     let e : a .at + 1 ≡ suc (a .at) = omega arith in
     let f : a .at + 2 ≡ suc (suc (a .at)) = omega arith in
-    simp (toZ-ofZ (c .fits .first), toZ-ofZ (c .fits .second), toZ-ofZ (c .fits .third), e, f)
+    simp (toZ-ofZ (c .fits .first), toZ-ofZ (c .fits .second), toZ-ofZ (c .fits .third), e, f) refl
 
 pub write-three-spec : {M : Type 1} → statement M
 write-three-spec =

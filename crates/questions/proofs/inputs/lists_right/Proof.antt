@@ -1,5 +1,6 @@
 -- By whether the answer lists are lent.
 use borrow.Author.Needs.{needs}
+use mathlib.Core.Path.{refl}
 use Prim.Native.Nat.{_+_, _*_, _-_, _≤_}
 use native.Mathlib.Omega.{arith}
 use Rattle.method.specs.Limits.{most-accident-years}
@@ -39,7 +40,7 @@ returns c =
 
 returns-2 : tie.Need-returns-2
 unfolding lengths-right
-returns-2 c = simp (c .before .answers .given .1, c .before .before .before .input-lengths-right .ensures)
+returns-2 c = simp (c .before .answers .given .1, c .before .before .before .input-lengths-right .ensures) refl
 
 pub lists-right-spec : {M : Type 1} → statement M
 lists-right-spec =

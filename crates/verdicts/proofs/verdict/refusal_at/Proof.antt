@@ -1,4 +1,5 @@
 -- The years of a place are counts, which 64 bits hold.
+use mathlib.Core.Path.{refl}
 use mir.Syntax.{w64}
 use mir.Facts.{toZ-pos}
 use native.Mathlib.Omega.{arith}
@@ -13,7 +14,7 @@ cast-t5 : tie.Need-cast-t5
 cast-t5 c = search needs
 
 returns : tie.Need-returns
-returns c = simp (toZ-pos w64 {n = c .args .i} (omega arith), toZ-pos w64 {n = c .args .k} (omega arith))
+returns c = simp (toZ-pos w64 {n = c .args .i} (omega arith), toZ-pos w64 {n = c .args .k} (omega arith)) refl
 
 pub refusal-at-spec : {M : Type 1} → statement M
 refusal-at-spec = tie.close (tie.spec cast-t4 cast-t5 returns)
