@@ -7,12 +7,12 @@ use crate::numbers::read_numbers;
 use crate::printing::print;
 use crate::reserve_call::try_reserve;
 use crate::row_call::try_row;
-use crate::text::field;
 use rows::AmountList;
+use text::cells::field;
 
 // Prints what is tried, and what its call answers.
 pub(crate) fn work(line: &[u8]) {
-    print(field(line, 1));
+    print(field(line, b'|', 1));
     print(b": ");
     with_lists(line);
     print(b"\n");
@@ -24,10 +24,10 @@ fn with_lists(line: &[u8]) {
     let mut adjustments = [0; 561];
     let mut weights = [0; 528];
     let mut openings = [0; 32];
-    let payments_end = read_numbers(field(line, 3), &mut payments);
-    let adjustments_end = read_numbers(field(line, 4), &mut adjustments);
-    let weights_end = read_numbers(field(line, 5), &mut weights);
-    let openings_end = read_numbers(field(line, 6), &mut openings);
+    let payments_end = read_numbers(field(line, b'|', 3), &mut payments);
+    let adjustments_end = read_numbers(field(line, b'|', 4), &mut adjustments);
+    let weights_end = read_numbers(field(line, b'|', 5), &mut weights);
+    let openings_end = read_numbers(field(line, b'|', 6), &mut openings);
     call(
         line,
         &payments[0..payments_end],
@@ -73,8 +73,8 @@ pub(crate) struct Asked {
 fn asked_of(line: &[u8]) -> Asked {
     let mut size = [0; 2];
     let mut last = [0; 3];
-    read_numbers(field(line, 2), &mut size);
-    read_numbers(field(line, 7), &mut last);
+    read_numbers(field(line, b'|', 2), &mut size);
+    read_numbers(field(line, b'|', 7), &mut last);
     Asked {
         years: size[0],
         cut: size[1],

@@ -8,7 +8,9 @@ mod numbers;
 mod printing;
 mod reserve_call;
 mod row_call;
-mod text;
+
+use text::search::Sought;
+use text::search::find;
 
 fn main() {
     let mut cases = io::large_buffer();
@@ -20,7 +22,7 @@ fn main() {
 fn work_lines(cases: &[u8]) {
     let mut start = 0;
     while start < cases.len() {
-        let end = text::find(cases, start, b'\n');
+        let end = start + find(&cases[start..], Sought::Byte(b'\n'));
         case_line::work(&cases[start..end]);
         start = end + 1;
     }

@@ -2,9 +2,10 @@
 ghost use Prim.Native.Nat.{_≤_};
 ghost use lib.ListN.{length};
 use crate::printing::print;
-use crate::text::find;
 use figures::reading::Figure;
 use figures::reading::figure_of;
+use text::search::Sought;
+use text::search::find;
 
 // Reads the numbers of a field, which a space parts, into a list, and answers how many there are.
 // Those that the list has no room for are left out, and the case is printed as malformed.
@@ -18,7 +19,7 @@ pub(crate) fn read_numbers(field: &[u8], list: &mut [i64]) -> usize
             print(b"malformed, numbers are left out: ");
             return count;
         }
-        let end = find(field, start, b' ');
+        let end = start + find(&field[start..], Sought::Byte(b' '));
         list[count] = number_of(&field[start..end]);
         count += 1;
         start = end + 1;

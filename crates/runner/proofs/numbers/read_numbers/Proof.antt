@@ -1,9 +1,12 @@
--- The list keeps its length, the count stays within it, and each turn starts further on in the field.
+-- The list keeps its length, the count stays within it, the end of each number lies within the field, and each turn starts further on.
 use mathlib.Core.Path.{_≡_}
-use Prim.Native.Nat.{_-_, _≤_}
+use Prim.Native.Nat.{_+_, _-_, _≤_}
 use lib.ListN.{length, length-set}
 use borrow.Author.Needs.{needs}
 use native.Mathlib.Omega.{arith}
+use Rattle.text.specs.Bytes.{space}
+use Rattle.text.specs.declared.search.Sought.the-variants.{Byte}
+use Rattle.text.proofs.Searches.{found-within-rest}
 use Rattle.runner.proofs.numbers.read_numbers.Statement.{statement}
 use Rattle.runner.proofs.numbers.read_numbers.Tie as tie
 
@@ -28,8 +31,25 @@ same-length c = search needs
 returns : tie.Need-returns Inv-loop μ-loop
 returns c = search needs
 
+sub-find : tie.Need-sub-find Inv-loop μ-loop
+sub-find c = search needs
+
+part-find-start : tie.Need-part-find-start Inv-loop μ-loop
+part-find-start c = search needs
+
+part-find-end : tie.Need-part-find-end Inv-loop μ-loop
+part-find-end c = search needs
+
 find-requires : tie.Need-find-requires Inv-loop μ-loop
 find-requires c κs = search needs
+
+end-within : (c : tie.After-find Inv-loop μ-loop) → let turn = c .before .before .before .before in turn .loop .start + c .find .result ≤ length (turn .before .before .args .field .now)
+end-within c =
+    let turn = c .before .before .before .before in
+    found-within-rest (Byte space) (turn .before .before .args .field .now) (turn .loop .start) (c .find .result) (omega arith) (c .find .ensures)
+
+add-end : tie.Need-add-end Inv-loop μ-loop
+add-end c = let h = end-within c in search needs
 
 sub-number-of : tie.Need-sub-number-of Inv-loop μ-loop
 sub-number-of c = search needs
@@ -38,13 +58,13 @@ part-number-of-start : tie.Need-part-number-of-start Inv-loop μ-loop
 part-number-of-start c = search needs
 
 part-number-of-end : tie.Need-part-number-of-end Inv-loop μ-loop
-part-number-of-end c = search needs
+part-number-of-end c = let h = end-within c in search needs
 
 number-of-requires : tie.Need-number-of-requires Inv-loop μ-loop
 number-of-requires c κs = search needs
 
-mul-t16 : tie.Need-mul-t16 Inv-loop μ-loop
-mul-t16 c = search needs
+mul-t13 : tie.Need-mul-t13 Inv-loop μ-loop
+mul-t13 c = search needs
 
 slice-set-from-list : tie.Need-slice-set-from-list Inv-loop μ-loop
 slice-set-from-list c = search needs
@@ -53,7 +73,7 @@ add-count : tie.Need-add-count Inv-loop μ-loop
 add-count c = search needs
 
 add-start : tie.Need-add-start Inv-loop μ-loop
-add-start c = search needs
+add-start c = let h = end-within (c .before .before) in search needs
 
 loop-less : tie.Need-loop-less Inv-loop μ-loop
 loop-less c = search needs
@@ -78,12 +98,16 @@ read-numbers-spec =
     print-requires
     same-length
     returns
+    sub-find
+    part-find-start
+    part-find-end
     find-requires
+    add-end
     sub-number-of
     part-number-of-start
     part-number-of-end
     number-of-requires
-    mul-t16
+    mul-t13
     slice-set-from-list
     add-count
     add-start

@@ -1,0 +1,8 @@
+-- The laws of texts: what a search finds, where lines end and how they follow, separators, cells, words and fields.
+pub mod Searches
+pub mod FirstLines
+pub mod LinesOfText
+pub mod Separators
+pub mod Trimmed
+pub mod WordsOfLine
+pub mod Fields

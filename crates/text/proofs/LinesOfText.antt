@@ -1,0 +1,76 @@
+-- The lines of a text one by one: a text that is not at its end has a first line, and goes on with the others.
+use mathlib.Core.Path.{_≡_, refl, sym, ap, _∙_}
+use mathlib.Core.Bool.{Bool, true, false, _&&_, cond, and-false}
+use mathlib.Core.List.{List, [], _∷_, map}
+use Prim.Native.Nat.{ℕ, suc, _+_, _-_, _≤_, _<_}
+use native.Mathlib.Omega.{arith}
+use lib.Dec.{eqb}
+use lib.ListN.{length, getD, take, drop, drop-of-length-le, length-drop}
+use lib.Seq.{drop-cons, drop-drop}
+use Rattle.text.specs.Bytes.{line-feed, carriage-return}
+use Rattle.text.specs.Lines.{first-of, others-of, with-byte, line-feed-follows, whole-lines, without-comment, lines, AfterLine}
+use Rattle.text.proofs.Searches.{whole-rest}
+
+-- ---- Some line
+
+abbrev some : List (List ℕ) → Type 0
+some all = all ≡ first-of all ∷ others-of all
+
+some-whole-line : (byte : ℕ) (text : List ℕ) → some (whole-lines (byte ∷ text))
+unfolding whole-lines
+some-whole-line byte [] = rw (and-false (eqb byte carriage-return)) (go (eqb byte line-feed))
+  where
+    go : (ends : Bool) → some (cond ends ([] ∷ []) (with-byte byte []))
+    go true = refl
+    go false = refl
+some-whole-line byte (next ∷ text) =
+    go (eqb byte line-feed) (eqb byte carriage-return && line-feed-follows (next ∷ text)) (some-whole-line next text)
+  where
+    go : (ends returns : Bool) → some (whole-lines (next ∷ text))
+        → some (cond ends ([] ∷ whole-lines (next ∷ text)) (cond returns (whole-lines (next ∷ text)) (with-byte byte (whole-lines (next ∷ text)))))
+    go true returns e = refl
+    go false true e = e
+    go false false e = refl
+
+some-of-map : (f : List ℕ → List ℕ) (all : List (List ℕ)) → some all → some (map f all)
+some-of-map f [] e = absurd (omega (arith, ap length e))
+some-of-map f (line ∷ others) e = refl
+
+some-line : (byte : ℕ) (text : List ℕ) → some (lines (byte ∷ text))
+unfolding lines
+some-line byte text = some-of-map without-comment (whole-lines (byte ∷ text)) (some-whole-line byte text)
+
+-- ---- From a place on
+
+pub lines-from : (text : List ℕ) (start : ℕ) → start < length text
+    → lines (drop start text) ≡ first-of (lines (drop start text)) ∷ others-of (lines (drop start text))
+lines-from text start within = rw (drop-cons text start 0 within) (some-line (getD text start 0) (drop (suc start) text))
+
+pub no-lines : (text : List ℕ) (start : ℕ) → length text ≤ start → lines (drop start text) ≡ []
+unfolding lines whole-lines
+no-lines text start h = rw (drop-of-length-le text h)
+
+-- A line of a text, and the places where it and the next one start.
+pub record LineAt (text : List ℕ) (start : ℕ) (line : List ℕ) (next : ℕ) : Type 0 where
+  pub parts : lines (drop start text) ≡ line ∷ lines (drop next text)
+  pub within : next ≤ length text
+  pub further : start < next
+
+-- What the first line of the rest of a text tells.
+module _ (text : List ℕ) (start : ℕ) (line : List ℕ) (is : line ≡ first-of (lines (take (length text - start) (drop start text)))) where
+  pub first-of-rest : start ≤ length text → line ≡ first-of (lines (drop start text))
+  first-of-rest within = is ∙ ap (λ rest. first-of (lines rest)) (whole-rest text start within)
+
+  module _ (more : start < length text) where
+    pub line-and-others : lines (drop start text) ≡ line ∷ others-of (lines (drop start text))
+    line-and-others = lines-from text start more ∙ ap (λ first. first ∷ others-of (lines (drop start text))) (sym (first-of-rest (omega arith)))
+
+    pub line-read : (size : ℕ) → AfterLine (take (length text - start) (drop start text)) size → LineAt text start line (start + size)
+    line-read size after =
+        let rest : AfterLine (drop start text) size = rw (whole-rest text start (omega arith)) at after in
+        let left = length-drop start text in
+        record {
+          parts = line-and-others ∙ ap (λ others. line ∷ others) (sym (ap lines (sym (drop-drop size start text)) ∙ rest .others));
+          within = omega (arith, rest .within);
+          further = omega (arith, rest .further (omega arith));
+        }
