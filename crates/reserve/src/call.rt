@@ -1,5 +1,5 @@
 // The call of the engine that a text asks for, and what is printed of its answer.
-use crate::completed::print_completed;
+use crate::completed_tables::print_completed;
 use crate::counts::FUTURE_FIGURES;
 use crate::counts::cells_in;
 use crate::counts::count_of;
@@ -16,16 +16,8 @@ use figures::writing::amount;
 use questions::inputs::AnswerLists;
 use single_cell::single_cell;
 use triangle::reading::read;
+use triangle_text::reading::Asked;
 use verdicts::verdict::Verdict;
-
-// What the headings say: the number of accident years, the cut, and the cell that is asked for alone, where one is.
-pub(crate) struct Asked {
-    pub(crate) years: i64,
-    pub(crate) cut: i64,
-    pub(crate) one_cell: bool,
-    pub(crate) accident_year: i64,
-    pub(crate) development_year: i64,
-}
 
 pub(crate) fn call<'a>(
     asked: Asked,

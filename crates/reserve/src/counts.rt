@@ -9,14 +9,8 @@ use verdicts::limits::GREATEST_AMOUNT;
 use verdicts::limits::MOST_YEARS;
 use verdicts::limits::from_to;
 
-// Room for the largest triangle: its seen cells, its weights, three figures and more for each unseen cell, and every cell of a square.
-pub(crate) const SEEN_CELLS: usize = 528;
-
-pub(crate) const WEIGHTED_CELLS: usize = 496;
-
+// Room for the future list of the largest triangle, and more.
 pub(crate) const FUTURE_FIGURES: usize = 1584;
-
-pub(crate) const ALL_CELLS: usize = 1024;
 
 // A number of years, or 0 where no triangle has as many.
 pub(crate) fn count_of(years: i64) -> usize

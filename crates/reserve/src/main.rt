@@ -1,18 +1,14 @@
 // Reads a triangle as text, from the file that is named or from standard input, and prints its reserves or why it is refused.
 // docs/FORMAT.md says what is read and what is printed.
 mod answer;
-mod blocks;
 mod call;
-mod completed;
+mod completed_tables;
 mod counts;
-mod headings;
-mod lines;
 mod malformed;
 mod messages;
 mod printing;
 mod refusals;
 mod reserve_table;
-mod rows_of_text;
 mod sums_table;
 
 use printing::print;
@@ -53,16 +49,5 @@ fn read_from(file: i32, name: &[u8]) {
         print(b"refused: expected a text of at most 65,536 bytes\n");
         return;
     }
-    answer::answer(without_mark(&text[..length]));
-}
-
-// A text without its byte order mark.
-fn without_mark(text: &[u8]) -> &[u8] {
-    if text.len() < 3 {
-        return text;
-    }
-    if (text[0] == 0xEF) & (text[1] == 0xBB) & (text[2] == 0xBF) {
-        return &text[3..];
-    }
-    text
+    answer::answer(&text[..length]);
 }

@@ -3,38 +3,9 @@ use crate::messages::print_message;
 use crate::messages::print_with_numbers;
 use crate::printing::print;
 use crate::printing::signed;
-
-pub(crate) enum Expected {
-    HeadingBeforeRow,
-    KnownHeading,
-    HeadingOnce,
-    CumulatedOrNothing,
-    NothingAfterHeading,
-    NumberAfterCut,
-    YearsAfterCell,
-    Incremental,
-    NoFurtherRow,
-    NoFurtherOpening,
-    NumberForBlank,
-    WholeNumber,
-    SixtyFourBits,
-    DifferenceOfSixtyFourBits,
-    RowEnd,
-}
-
-// The first fault of a text: its line and its cell, counted from 1, the cell 0 where the whole line is meant.
-pub(crate) enum Fault {
-    Nothing,
-    At(usize, usize, Expected),
-}
-
-// Of two faults the first, where there is one.
-pub(crate) fn first_of(first: Fault, second: Fault) -> Fault {
-    match first {
-        Fault::Nothing => second,
-        Fault::At(_, _, _) => first,
-    }
-}
+use headings::faults::HeadingFault;
+use row_text::entries::CellFault;
+use triangle_text::faults::Expected;
 
 pub(crate) fn print_fault(line: usize, cell: usize, expected: Expected) {
     print_with_numbers(b"refused: line @", signed(line), 0);
@@ -71,20 +42,32 @@ nothing, for the row ends before this cell",
 // The line of `print_expected` that says what was expected.
 fn line_of(expected: Expected) -> usize {
     match expected {
-        Expected::HeadingBeforeRow => 0,
-        Expected::KnownHeading => 1,
-        Expected::HeadingOnce => 2,
-        Expected::CumulatedOrNothing => 3,
-        Expected::NothingAfterHeading => 4,
-        Expected::NumberAfterCut => 5,
-        Expected::YearsAfterCell => 6,
+        Expected::InHeading(fault) => heading_line(fault),
         Expected::Incremental => 7,
         Expected::NoFurtherRow => 8,
-        Expected::NoFurtherOpening => 9,
-        Expected::NumberForBlank => 10,
-        Expected::WholeNumber => 11,
-        Expected::SixtyFourBits => 12,
-        Expected::DifferenceOfSixtyFourBits => 13,
-        Expected::RowEnd => 14,
+        Expected::InCell(fault) => cell_line(fault),
+    }
+}
+
+fn heading_line(fault: HeadingFault) -> usize {
+    match fault {
+        HeadingFault::HeadingBeforeRow => 0,
+        HeadingFault::KnownHeading => 1,
+        HeadingFault::HeadingOnce => 2,
+        HeadingFault::CumulatedOrNothing => 3,
+        HeadingFault::NothingAfterHeading => 4,
+        HeadingFault::NumberAfterCut => 5,
+        HeadingFault::YearsAfterCell => 6,
+    }
+}
+
+fn cell_line(fault: CellFault) -> usize {
+    match fault {
+        CellFault::NoFurtherOpening => 9,
+        CellFault::NumberForBlank => 10,
+        CellFault::WholeNumber => 11,
+        CellFault::SixtyFourBits => 12,
+        CellFault::DifferenceOfSixtyFourBits => 13,
+        CellFault::RowEnd => 14,
     }
 }

@@ -1,5 +1,4 @@
 // What is printed of a refusal: the question, its place, and a sentence on what is wrong.
-use crate::call::Asked;
 use crate::counts::cells_in;
 use crate::counts::count_of;
 use crate::counts::less;
@@ -11,6 +10,7 @@ use crate::messages::print_with_numbers;
 use crate::printing::signed;
 use rows::AmountList;
 use rows::row;
+use triangle_text::reading::Asked;
 use verdicts::verdict::Place;
 
 pub(crate) fn print_refusal<'a>(

@@ -1,99 +1,106 @@
 // The table of reserves by accident year, with totals.
-ghost use Prim.Native.Nat.{_≤_, _<_};
+ghost use Prim.Native.Nat.{_≤_};
 use crate::counts::in_millionths;
 use crate::counts::larger;
-use crate::counts::number_at;
 use crate::printing::print;
 use crate::printing::print_entry;
 use crate::printing::print_label;
 use crate::printing::print_text_entry;
+use completed::places::reserve_at;
 use figures::exact::Exact;
 use figures::exact::sum;
 use figures::writing::amount;
 use verdicts::limits::ACCIDENT_YEARS;
 
-// The four figures of accident year i stand from 4 × (i − 1) on: last outstanding, paid reserve, incurred reserve and closing outstanding, in millionths.
+// The four figures of an accident year.
+enum Figure {
+    LastOutstanding,
+    PaidReserve,
+    IncurredReserve,
+    ClosingOutstanding,
+}
+
 pub(crate) fn print_reserves(n: usize, outstandings: [i64; ACCIDENT_YEARS], reserves: &[i64])
     requires { ⌜ n ≤ 32 ⌝ }
 {
-    let mut figures = [0; 128];
-    put_figures(n, outstandings, reserves, &mut figures);
-    print_figures(n, &figures);
-}
-
-fn put_figures(
-    n: usize,
-    outstandings: [i64; ACCIDENT_YEARS],
-    reserves: &[i64],
-    figures: &mut [i64; 128],
-)
-    requires { ⌜ n ≤ 32 ⌝ }
-{
-    let mut i = 0;
-    while i < n {
-        figures[4 * i] = in_millionths(outstandings[i]);
-        figures[4 * i + 1] = number_at(reserves, 3 * i);
-        figures[4 * i + 2] = number_at(reserves, 3 * i + 1);
-        figures[4 * i + 3] = number_at(reserves, 3 * i + 2);
-        i += 1;
-    }
-}
-
-fn print_figures(n: usize, figures: &[i64; 128])
-    requires { ⌜ n ≤ 32 ⌝ }
-{
-    let column = widest(n, figures);
+    let column = widest(n, outstandings, reserves);
     print(b"\nReserves in units\naccident year");
     print_text_entry(b"last outstanding", column);
     print_text_entry(b"paid reserve", column);
     print_text_entry(b"incurred reserve", column);
     print_text_entry(b"closing outstanding", column);
     print(b"\n");
-    print_years(n, figures, column);
-    print(b"        total");
-    print_total(total(figures, 0), column);
-    print_total(total(figures, 1), column);
-    print_total(total(figures, 2), column);
-    print_total(total(figures, 3), column);
-    print(b"\n");
+    print_years(n, outstandings, reserves, column);
+    print_totals(n, outstandings, reserves, column);
 }
 
-fn print_years(n: usize, figures: &[i64; 128], column: usize)
+fn print_years(n: usize, outstandings: [i64; ACCIDENT_YEARS], reserves: &[i64], column: usize)
     requires { ⌜ n ≤ 32 ⌝ }
 {
-    let mut i = 0;
-    while i < n {
-        print_label(i + 1, 13);
-        print_year(figures, i, column);
+    let mut i = 1;
+    while i <= n {
+        print_label(i, 13);
+        print_figure(Figure::LastOutstanding, outstandings, reserves, i, column);
+        print_figure(Figure::PaidReserve, outstandings, reserves, i, column);
+        print_figure(Figure::IncurredReserve, outstandings, reserves, i, column);
+        print_figure(
+            Figure::ClosingOutstanding,
+            outstandings,
+            reserves,
+            i,
+            column,
+        );
+        print(b"\n");
         i += 1;
     }
 }
 
-fn print_year(figures: &[i64; 128], i: usize, column: usize)
-    requires { ⌜ i < 32 ⌝ }
+fn print_figure(
+    figure: Figure,
+    outstandings: [i64; ACCIDENT_YEARS],
+    reserves: &[i64],
+    i: usize,
+    column: usize,
+)
+    requires { ⌜ (1 ≤ i) × (i ≤ 32) ⌝ }
 {
-    print_entry(b"", amount(figures[4 * i]), column);
-    print_entry(b"", amount(figures[4 * i + 1]), column);
-    print_entry(b"", amount(figures[4 * i + 2]), column);
-    print_entry(b"", amount(figures[4 * i + 3]), column);
+    let millionths = figure_of(figure, outstandings, reserves, i);
+    print_entry(b"", amount(millionths), column);
+}
+
+// One of the four figures of accident year i, in millionths.
+fn figure_of(figure: Figure, outstandings: [i64; ACCIDENT_YEARS], reserves: &[i64], i: usize) -> i64
+    requires { ⌜ (1 ≤ i) × (i ≤ 32) ⌝ }
+{
+    match figure {
+        Figure::LastOutstanding => in_millionths(outstandings[i - 1]),
+        Figure::PaidReserve => reserve_at(reserves, 0, i),
+        Figure::IncurredReserve => reserve_at(reserves, 1, i),
+        Figure::ClosingOutstanding => reserve_at(reserves, 2, i),
+    }
+}
+
+fn print_totals(n: usize, outstandings: [i64; ACCIDENT_YEARS], reserves: &[i64], column: usize)
+    requires { ⌜ n ≤ 32 ⌝ }
+{
+    print(b"        total");
+    print_total(
+        total(Figure::LastOutstanding, n, outstandings, reserves),
+        column,
+    );
+    print_total(
+        total(Figure::PaidReserve, n, outstandings, reserves),
+        column,
+    );
+    print_total(
+        total(Figure::IncurredReserve, n, outstandings, reserves),
+        column,
+    );
+    print_total(
+        total(Figure::ClosingOutstanding, n, outstandings, reserves),
+        column,
+    );
     print(b"\n");
-}
-
-// The total of one of the four figures.
-fn total(figures: &[i64; 128], figure: usize) -> Exact
-    requires { ⌜ figure < 4 ⌝ }
-{
-    let mut total = 0;
-    let mut i = 0;
-    while i < ACCIDENT_YEARS {
-        let added = sum(total, figures[4 * i + figure]);
-        let Exact::Of(number) = added else {
-            return added;
-        };
-        total = number;
-        i += 1;
-    }
-    Exact::Of(total)
 }
 
 fn print_total(total: Exact, column: usize) {
@@ -103,26 +110,49 @@ fn print_total(total: Exact, column: usize) {
     }
 }
 
-// The width of the widest figure, of a total or of the widest heading.
-fn widest(n: usize, figures: &[i64; 128]) -> usize
+// The total of one of the four figures.
+fn total(figure: Figure, n: usize, outstandings: [i64; ACCIDENT_YEARS], reserves: &[i64]) -> Exact
     requires { ⌜ n ≤ 32 ⌝ }
 {
-    let mut column = larger(
-        larger(
-            total_width(total(figures, 0)),
-            total_width(total(figures, 1)),
-        ),
-        larger(
-            total_width(total(figures, 2)),
-            total_width(total(figures, 3)),
-        ),
-    );
-    column = larger(column, 19);
-    let mut at = 0;
-    while at < 4 * n {
-        let written = amount(figures[at]);
+    let mut total = 0;
+    let mut i = 1;
+    while i <= n {
+        let added = sum(total, figure_of(figure, outstandings, reserves, i));
+        let Exact::Of(number) = added else {
+            return added;
+        };
+        total = number;
+        i += 1;
+    }
+    Exact::Of(total)
+}
+
+// The width of the widest entry: a figure, a total or the widest heading.
+fn widest(n: usize, outstandings: [i64; ACCIDENT_YEARS], reserves: &[i64]) -> usize
+    requires { ⌜ n ≤ 32 ⌝ }
+{
+    let last = widest_of(Figure::LastOutstanding, n, outstandings, reserves);
+    let paid = widest_of(Figure::PaidReserve, n, outstandings, reserves);
+    let incurred = widest_of(Figure::IncurredReserve, n, outstandings, reserves);
+    let closing = widest_of(Figure::ClosingOutstanding, n, outstandings, reserves);
+    larger(larger(last, paid), larger(larger(incurred, closing), 19))
+}
+
+// The width of the widest of one of the four figures and of its total.
+fn widest_of(
+    figure: Figure,
+    n: usize,
+    outstandings: [i64; ACCIDENT_YEARS],
+    reserves: &[i64],
+) -> usize
+    requires { ⌜ n ≤ 32 ⌝ }
+{
+    let mut column = total_width(total(figure, n, outstandings, reserves));
+    let mut i = 1;
+    while i <= n {
+        let written = amount(figure_of(figure, outstandings, reserves, i));
         column = larger(column, written.width);
-        at += 1;
+        i += 1;
     }
     column
 }

@@ -1,29 +1,20 @@
--- The figure is one of four, and each turn leaves one accident year less.
-use Prim.Native.Nat.{_-_, _<_}
+-- Accident years count from 1, and each turn leaves one less.
+use Prim.Native.Nat.{_+_, _-_, _≤_}
 use borrow.Author.Needs.{needs}
 use Rattle.reserve.proofs.reserve_table.total.Statement.{statement}
 use Rattle.reserve.proofs.reserve_table.total.Tie as tie
 
 abbrev Inv-loop : tie.InvT-loop
-Inv-loop figures figure total₀ i₀ total i = figure < 4
+Inv-loop figure n outstandings reserves total₀ i₀ total i = (n ≤ 32) × (1 ≤ i)
 
 abbrev μ-loop : tie.MeasureT-loop
-μ-loop figures figure total₀ i₀ total i = 32 - i
+μ-loop figure n outstandings reserves total₀ i₀ total i = n + 1 - i
 
 loop-holds : tie.Need-loop-holds Inv-loop μ-loop
 loop-holds c = search needs
 
-mul-sum : tie.Need-mul-sum Inv-loop μ-loop
-mul-sum c = search needs
-
-add-sum : tie.Need-add-sum Inv-loop μ-loop
-add-sum c = search needs
-
-mul-sum-2 : tie.Need-mul-sum-2 Inv-loop μ-loop
-mul-sum-2 c = search needs
-
-element-copy-out-sum : tie.Need-element-copy-out-sum Inv-loop μ-loop
-element-copy-out-sum c = search needs
+figure-of-requires : tie.Need-figure-of-requires Inv-loop μ-loop
+figure-of-requires c κs = search needs
 
 sum-requires : tie.Need-sum-requires Inv-loop μ-loop
 sum-requires c κs = search needs
@@ -56,10 +47,7 @@ total-spec =
     Inv-loop
     μ-loop
     loop-holds
-    mul-sum
-    add-sum
-    mul-sum-2
-    element-copy-out-sum
+    figure-of-requires
     sum-requires
     enum-known-added
     enum-told

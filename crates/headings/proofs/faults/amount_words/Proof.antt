@@ -1,0 +1,22 @@
+-- The tests are those of the definition.
+use borrow.Author.Needs.{needs}
+use Rattle.headings.specs.Faults.{amount-words}
+use Rattle.headings.proofs.faults.amount_words.Statement.{statement}
+use Rattle.headings.proofs.faults.amount_words.Tie as tie
+
+is-no-word-requires : tie.Need-is-no-word-requires
+is-no-word-requires c κs = search needs
+
+says-how-requires : tie.Need-says-how-requires
+says-how-requires c κs = search needs
+
+check-requires : tie.Need-check-requires
+check-requires c κs = search needs
+
+returns : tie.Need-returns
+unfolding amount-words
+returns c = cc
+
+pub amount-words-spec : {M : Type 1} → statement M
+amount-words-spec =
+    tie.close (tie.spec is-no-word-requires says-how-requires check-requires returns)

@@ -1,0 +1,26 @@
+-- The tests are those of the definition.
+use borrow.Author.Needs.{needs}
+use Rattle.headings.specs.Faults.{cell-words}
+use Rattle.headings.proofs.faults.cell_words.Statement.{statement}
+use Rattle.headings.proofs.faults.cell_words.Tie as tie
+
+is-number-requires : tie.Need-is-number-requires
+is-number-requires c κs = search needs
+
+is-number-requires-2 : tie.Need-is-number-requires-2
+is-number-requires-2 c κs = search needs
+
+is-no-word-requires : tie.Need-is-no-word-requires
+is-no-word-requires c κs = search needs
+
+check-requires : tie.Need-check-requires
+check-requires c κs = search needs
+
+returns : tie.Need-returns
+unfolding cell-words
+returns c = cc
+
+pub cell-words-spec : {M : Type 1} → statement M
+cell-words-spec =
+    tie.close
+    (tie.spec is-number-requires is-number-requires-2 is-no-word-requires check-requires returns)

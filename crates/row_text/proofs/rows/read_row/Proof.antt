@@ -1,0 +1,204 @@
+-- Each turn reads one cell more (`CellByCell`); after the last number comes the row's end.
+use mathlib.Core.Path.{_≡_, ap, _∙_}
+use mathlib.Core.List.{List}
+use Prim.Native.Nat.{ℕ, suc, _+_, _-_}
+use native.Mathlib.Nat.{sub-zero}
+use native.Mathlib.Omega.{arith}
+use borrow.Author.Needs.{needs}
+use lib.IntN.{ℤ}
+use lib.ListN.{length, drop, length-drop}
+use mir.Syntax.{w64}
+use mir.Val.{toZ}
+use Rattle.integers.proofs.MachineArithmetic.{held}
+use Rattle.text.specs.Cells.{after-cell}
+use Rattle.text.proofs.Searches.{whole-rest}
+use Rattle.row_text.specs.Rows.{RowNumbers, after-entry, row-numbers, entry-read}
+use Rattle.row_text.proofs.CellByCell.{part-from, cell-here, ReadSoFar, nothing-read, cell-within, cell-read, cell-wrong, row-wrong}
+use Rattle.row_text.proofs.NumbersOfRow.{numbers-left, number-follows, row-ended}
+use Rattle.row_text.proofs.rows.read_row.Statement.{statement}
+use Rattle.row_text.proofs.rows.read_row.Tie as tie
+
+abbrev Inv-loop : tie.InvT-loop
+Inv-loop line separator missing cumulated row₀ start₀ before₀ cells₀ row start before cells =
+    ReadSoFar (row-numbers separator missing cumulated (length row₀) line) line row₀ row start cells
+    (numbers-left separator missing cumulated (length row₀) cells (toZ w64 before) (drop start line))
+
+abbrev μ-loop : tie.MeasureT-loop
+μ-loop line separator missing cumulated row₀ start₀ before₀ cells₀ row start before cells = length row₀ - cells
+
+abbrev line : tie.At-loop Inv-loop μ-loop → List ℕ
+line turn = turn .before .before .args .line .now
+
+abbrev separator : tie.At-loop Inv-loop μ-loop → ℕ
+separator turn = turn .before .before .args .separator
+
+-- what is left of the line, after so many cells and a figure
+abbrev left : tie.At-loop Inv-loop μ-loop → ℕ → ℤ → List ℕ → RowNumbers
+left turn = let args = turn .before .before .args in numbers-left (args .separator) (args .missing) (args .cumulated) (length (args .row .now))
+
+-- the part of the line that is left
+part-is : (turn : tie.At-loop Inv-loop μ-loop) → part-from (line turn) (turn .loop .start) ≡ drop (turn .loop .start) (line turn)
+part-is turn = whole-rest (line turn) (turn .loop .start) (turn .loop .inv .start-within)
+
+loop-holds : tie.Need-loop-holds Inv-loop μ-loop
+loop-holds c = rw (sub-zero (length (c .before .args .row .now))) (nothing-read _ _ _)
+
+-- ---- A turn
+
+sub-first-cell : tie.Need-sub-first-cell Inv-loop μ-loop
+sub-first-cell c = search needs
+
+part-first-cell-start : tie.Need-part-first-cell-start Inv-loop μ-loop
+part-first-cell-start c = search needs
+
+part-first-cell-end : tie.Need-part-first-cell-end Inv-loop μ-loop
+part-first-cell-end c = search needs
+
+first-cell-requires : tie.Need-first-cell-requires Inv-loop μ-loop
+first-cell-requires c κs = search needs
+
+entry-in-requires : tie.Need-entry-in-requires Inv-loop μ-loop
+entry-in-requires c κs = search needs
+
+-- the line goes on with the cell's entry
+goes-on : (c : tie.After-entry-in Inv-loop μ-loop) →
+    let turn = c .before .before .before .before in
+    let rest = drop (turn .loop .start) (line turn) in
+    left turn (turn .loop .cells) (toZ w64 (turn .loop .before)) rest
+    ≡ after-entry (turn .loop .cells) (c .entry-in .result) (λ figure. left turn (suc (turn .loop .cells)) figure (after-cell (separator turn) rest))
+goes-on c =
+    let turn = c .before .before .before .before in
+    let args = turn .before .before .args in
+    let start = turn .loop .start in
+    let same = turn .loop .inv .same-length in
+    number-follows (args .separator) (args .missing) (args .cumulated) (length (args .row .now)) (turn .loop .cells) (toZ w64 (turn .loop .before))
+    (drop start (line turn)) (omega arith) (cell-here (separator turn) (line turn) start (turn .loop .inv .start-within) (c .before .first-cell .ensures))
+    (c .entry-in .ensures)
+
+enum-known-entry : tie.Need-enum-known-entry Inv-loop μ-loop
+enum-known-entry c = search needs
+
+enum-told : tie.Need-enum-told Inv-loop μ-loop
+enum-told c = search needs
+
+add-wrong-cell : tie.Need-add-wrong-cell Inv-loop μ-loop
+add-wrong-cell c = search needs
+
+wrong-cell-requires : tie.Need-wrong-cell-requires Inv-loop μ-loop
+wrong-cell-requires c κs = search needs
+
+same-length : tie.Need-same-length Inv-loop μ-loop
+same-length c = c .before .before .before .before .before .before .before .loop .inv .same-length
+
+returns : tie.Need-returns Inv-loop μ-loop
+returns c =
+    let called = c .before .before .before in
+    let turn = called .before .before .before .before in
+    let told = c .before .enum-told .given .1 in
+    row-wrong (turn .loop .inv) (cell-wrong (turn .loop .inv) (separator turn) (left turn) (goes-on called) told)
+    (c .wrong-cell .ensures ∙ ap (entry-read (turn .loop .cells + 1)) told)
+
+mul-amount : tie.Need-mul-amount Inv-loop μ-loop
+mul-amount c = search needs
+
+slice-set-from-amount : tie.Need-slice-set-from-amount Inv-loop μ-loop
+slice-set-from-amount c = search needs
+
+sub-first-cell-length : tie.Need-sub-first-cell-length Inv-loop μ-loop
+sub-first-cell-length c = search needs
+
+part-first-cell-length-start : tie.Need-part-first-cell-length-start Inv-loop μ-loop
+part-first-cell-length-start c = search needs
+
+part-first-cell-length-end : tie.Need-part-first-cell-length-end Inv-loop μ-loop
+part-first-cell-length-end c = search needs
+
+first-cell-length-requires : tie.Need-first-cell-length-requires Inv-loop μ-loop
+first-cell-length-requires c κs = search needs
+
+add-start : tie.Need-add-start Inv-loop μ-loop
+add-start c =
+    let turn = c .before .before .before .before .before .before .before .before .before in
+    let within = cell-within (turn .loop .inv) (c .first-cell-length .ensures .0) in
+    search needs
+
+add-cells : tie.Need-add-cells Inv-loop μ-loop
+add-cells c = search needs
+
+loop-less : tie.Need-loop-less Inv-loop μ-loop
+loop-less c = search needs
+
+loop-again : tie.Need-loop-again Inv-loop μ-loop
+loop-again c =
+    let known = c .before .before in
+    let called = known .before .before .before in
+    let turn = called .before .before .before .before in
+    let told = known .before .entry .given in
+    let amount-held = held (told .0 .0) (known .known-told .given .0 .1) in
+    let figure-held = held (told .0 .1 .0) (known .known-told .given .1 .0 .1) in
+    rw (amount-held, figure-held)
+    (cell-read (turn .loop .inv) (separator turn) (left turn) (goes-on called) (told .1) (omega arith) (c .first-cell-length .result) (c .first-cell-length .ensures))
+
+-- ---- The end
+
+sub-row-end : tie.Need-sub-row-end Inv-loop μ-loop
+sub-row-end c = search needs
+
+part-row-end-start : tie.Need-part-row-end-start Inv-loop μ-loop
+part-row-end-start c = search needs
+
+part-row-end-end : tie.Need-part-row-end-end Inv-loop μ-loop
+part-row-end-end c = search needs
+
+row-end-requires : tie.Need-row-end-requires Inv-loop μ-loop
+row-end-requires c κs =
+    let turn = c .before .before in
+    let input = turn .before .before .pre in (
+      omega (arith, turn .loop .inv .cells-within, input .list-short),
+      omega (arith, ap length (part-is turn), length-drop (turn .loop .start) (line turn), input .line-short),
+    )
+
+same-length-2 : tie.Need-same-length-2 Inv-loop μ-loop
+same-length-2 c = c .before .before .before .loop .inv .same-length
+
+returns-2 : tie.Need-returns-2 Inv-loop μ-loop
+returns-2 c =
+    let turn = c .before .before .before in
+    let args = turn .before .before .args in
+    row-ended (args .separator) (args .missing) (args .cumulated) (toZ w64 (turn .loop .before)) (drop (turn .loop .start) (line turn)) (turn .loop .inv)
+    (omega arith) (simp (part-is turn) at (c .row-end .ensures))
+
+pub read-row-spec : {M : Type 1} → statement M
+read-row-spec =
+    tie.close
+    (tie.spec
+    Inv-loop
+    μ-loop
+    loop-holds
+    sub-first-cell
+    part-first-cell-start
+    part-first-cell-end
+    first-cell-requires
+    entry-in-requires
+    enum-known-entry
+    enum-told
+    add-wrong-cell
+    wrong-cell-requires
+    same-length
+    returns
+    mul-amount
+    slice-set-from-amount
+    sub-first-cell-length
+    part-first-cell-length-start
+    part-first-cell-length-end
+    first-cell-length-requires
+    add-start
+    add-cells
+    loop-less
+    loop-again
+    sub-row-end
+    part-row-end-start
+    part-row-end-end
+    row-end-requires
+    same-length-2
+    returns-2)

@@ -1,0 +1,4 @@
+// A row of numbers in a text, read into a list.
+pub mod entries;
+pub mod openings;
+pub mod rows;
