@@ -8,7 +8,7 @@ use figures::exact::sum;
 use outstandings::opening_of;
 
 // The outstanding of accident year i at the end of development year k, where the row is within the limits of questions 5 and 6.
-pub fn outstanding_at<'a>(
+pub(crate) fn outstanding_at<'a>(
     n: usize,
     payments: &'a [i64],
     adjustments: &'a [i64],

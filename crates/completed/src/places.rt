@@ -8,7 +8,7 @@ ghost use Rattle.method.specs.Claim.{cell-figure, year-figure};
 ghost use Rattle.completed.specs.Completed.{CellOfSquare};
 
 // Cell (i, k) of a list whose rows have n, n − 1, … cells; 0 where the list has ended.
-pub fn cell_at(n: usize, list: &[i64], i: usize, k: usize) -> i64
+pub(crate) fn cell_at(n: usize, list: &[i64], i: usize, k: usize) -> i64
     requires { ⌜ CellOfSquare n i k ⌝ }
     ensures { λ r. ⌜ r ≡ cell n (now (list .entry)) i k ⌝ }
 {
@@ -19,7 +19,7 @@ pub fn cell_at(n: usize, list: &[i64], i: usize, k: usize) -> i64
 }
 
 // One of the three figures of the unseen cell (i, k) in the future list; 0 where the list has ended.
-pub fn future_at(n: usize, future: &[i64], figure: usize, i: usize, k: usize) -> i64
+pub(crate) fn future_at(n: usize, future: &[i64], figure: usize, i: usize, k: usize) -> i64
     requires { ⌜ CellOfSquare n i k × (n + 1 < i + k) × (figure < 3) ⌝ }
     ensures { λ r. ⌜ r ≡ cell-figure n (now (future .entry)) figure i (k - 1) ⌝ }
 {
