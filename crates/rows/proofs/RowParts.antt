@@ -1,5 +1,5 @@
 -- A row handed back: where it begins, counted from the end of its list, and the answer accepted or refused.
-use mathlib.Core.Path.{_≡_, sym, ap, ap₂}
+use mathlib.Core.Path.{_≡_, refl, sym, ap, ap₂}
 use mathlib.Core.List.{List, []}
 use Prim.Native.Nat.{ℕ, _+_, _*_, _-_, _/_, _≤_}
 use native.Mathlib.Omega.{arith}
@@ -7,10 +7,10 @@ use lib.IntN.{ℤ, natAbs}
 use lib.ListN.{length, take, drop}
 use Rattle.method.specs.Triangle.{cells-before}
 use Rattle.method.specs.Questions.{Place, accepted, refused}
-use Rattle.method.specs.Answers.{Amounts, named-list, row-verdict, row-of, row}
+use Rattle.method.specs.Answers.{Amounts, payments, adjustments, named-list, row-verdict, row-of, row}
 use Rattle.method.proofs.Positions.{cells-before-is, row-inside}
 use Rattle.method.proofs.Rows.{RowAccepted, row-accepted, named-length}
-use Rattle.rows.specs.Rows.{RowInside}
+use Rattle.rows.specs.Rows.{RowInside, LentList, named-of}
 
 module _ (xs : List ℤ) (n i : ℕ) (h : RowInside xs n i) where
   -- the row's cells, and the place at which it begins
@@ -20,7 +20,7 @@ module _ (xs : List ℤ) (n i : ℕ) (h : RowInside xs n i) where
   abbrev start : ℕ
   start = length xs - cells * (cells + 1) / 2
 
-  from-end : (cells-before n (i - 1) ≡ start) × (cells * (cells + 1) / 2 ≤ length xs)
+  pub from-end : (cells-before n (i - 1) ≡ start) × (cells * (cells + 1) / 2 ≤ length xs)
   from-end = omega (arith, cells-before-is n (i - 1) cells (omega (arith, h .first, h .last)), h .long)
 
   pub rest-inside : cells * (cells + 1) / 2 ≤ length xs
@@ -33,6 +33,13 @@ module _ (xs : List ℤ) (n i : ℕ) (h : RowInside xs n i) where
   part-is =
       let e : start + cells - start ≡ n + 1 - i = omega (arith, h .last) in
       ap₂ (λ (a b : ℕ). take a (drop b xs)) e (sym (from-end .0))
+
+-- what the list that is named holds
+pub named-holds : (payment-list adjustment-list : LentList) (named : Amounts)
+    → named-of payment-list adjustment-list named .now ≡ named-list (payment-list .now) (adjustment-list .now) named
+unfolding named-list
+named-holds payment-list adjustment-list payments = refl
+named-holds payment-list adjustment-list adjustments = refl
 
 module _ (years : ℤ) (payment-list adjustment-list : List ℤ) (accident-year : ℤ) (named : Amounts) where
   pub refused-row : {question : ℕ} {p : Place} → row-verdict years payment-list adjustment-list accident-year ≡ refused question p

@@ -7,7 +7,7 @@ ghost use Rattle.method.specs.Limits.{most-accident-years};
 ghost use Rattle.method.specs.Triangle.{cells-before};
 ghost use Rattle.method.specs.Answers as meaning;
 ghost use Rattle.verdicts.specs.Verdicts.{verdict-of};
-ghost use Rattle.rows.specs.Rows.{amounts-of, RowInside};
+ghost use Rattle.rows.specs.Rows.{amounts-of, RowInside, OwnPart, named-of, RowHandedBack};
 use verdicts::limits::from_to;
 use verdicts::verdict::Verdict;
 use verdicts::verdict::asked;
@@ -19,7 +19,7 @@ pub enum AmountList {
     Adjustments,
 }
 
-// The row of an accident year, of the list that is named; empty where `row_verdict` refuses.
+// The row of an accident year, as the part of the list that is named; empty where `row_verdict` refuses.
 pub fn row<'a>(
     years: i64,
     payments: &'a [i64],
@@ -27,7 +27,7 @@ pub fn row<'a>(
     named: AmountList,
     accident_year: i64,
 ) -> &'a [i64]
-    ensures { λ r. ⌜ now r ≡ meaning.row years (now (payments .entry)) (now (adjustments .entry)) «accident_year» (amounts-of named) ⌝ }
+    ensures { λ r. ⌜ RowHandedBack years (payments .entry) (adjustments .entry) «accident_year» (amounts-of named) r ⌝ }
 {
     let list = named_list(payments, adjustments, named);
     let verdict = row_verdict(years, payments, adjustments, named, accident_year);
@@ -41,6 +41,7 @@ pub fn row<'a>(
 fn row_of<'a>(list: &'a [i64], n: usize, i: usize) -> &'a [i64]
     requires { ⌜ RowInside (now list) n i ⌝ }
     ensures { λ r. ⌜ now r ≡ take (n + 1 - i) (drop (cells-before n (i - 1)) (now (list .entry))) ⌝ }
+    ensures { λ r. ⌜ OwnPart (list .entry) (cells-before n (i - 1)) r ⌝ }
 {
     // The row and the later ones end the list.
     let later = n - i;
@@ -80,7 +81,7 @@ fn both_lengths_right<'a>(n: usize, payments: &'a [i64], adjustments: &'a [i64])
 }
 
 fn named_list<'a>(payments: &'a [i64], adjustments: &'a [i64], named: AmountList) -> &'a [i64]
-    ensures { λ r. ⌜ now r ≡ meaning.named-list (now (payments .entry)) (now (adjustments .entry)) (amounts-of named) ⌝ }
+    ensures { λ r. ⌜ r ≡ named-of (payments .entry) (adjustments .entry) (amounts-of named) ⌝ }
 {
     match named {
         AmountList::Payments => payments,

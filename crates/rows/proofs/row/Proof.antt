@@ -5,11 +5,12 @@ use native.Mathlib.Omega.{arith}
 use mir.Facts.{toZ-ofZ}
 use Rattle.method.specs.Questions.{accepted}
 use Rattle.method.specs.Answers.{row-verdict}
+use Rattle.method.proofs.FirstRefusal.{not-both}
 use Rattle.method.proofs.Rows.{RowAccepted, row-accepted}
 use Rattle.verdicts.specs.Verdicts.{verdict-of}
 use Rattle.verdicts.proofs.Counts.{count-fits}
 use Rattle.rows.specs.Rows.{amounts-of}
-use Rattle.rows.proofs.RowParts.{refused-row, accepted-row, inside-named-list}
+use Rattle.rows.proofs.RowParts.{named-holds, refused-row, accepted-row, inside-named-list}
 use Rattle.rows.proofs.row.Statement.{statement}
 use Rattle.rows.proofs.row.Tie as tie
 
@@ -53,8 +54,12 @@ part-result-end : tie.Need-part-result-end
 part-result-end c = search needs
 
 returns : tie.Need-returns
-returns c = refused-row _ _ _ _ (amounts-of (c .before .before .before .before .before .args .named))
-    (sym (asked (c .before .before .before)) ∙ ap verdict-of (c .before .enum-told2 .given .1))
+returns c =
+    let no = sym (asked (c .before .before .before)) ∙ ap verdict-of (c .before .enum-told2 .given .1) in
+    record {
+      holds = refused-row _ _ _ _ (amounts-of (c .before .before .before .before .before .args .named)) no;
+      own-part = λ yes. absurd (not-both yes no);
+    }
 
 cast-row-of : tie.Need-cast-row-of
 cast-row-of c = simp (toZ-ofZ (began c .fits .years))
@@ -67,14 +72,18 @@ cast-row-of-2 c = simp (toZ-ofZ (began c .fits .accident-year))
 row-of-requires : tie.Need-row-of-requires
 row-of-requires c κs =
     let s = began c in
-    simp (toZ-ofZ (s .fits .years), toZ-ofZ (s .fits .accident-year), c .before .before .before .named-list .ensures)
+    simp (toZ-ofZ (s .fits .years), toZ-ofZ (s .fits .accident-year), c .before .before .before .named-list .ensures, named-holds)
     (inside-named-list _ _ _ _ (amounts-of (s .args .named)) (passed c))
 
 returns-2 : tie.Need-returns-2
 returns-2 c =
     let s = c .before .before .before .before .before in
-    (simp (toZ-ofZ (s .fits .years), toZ-ofZ (s .fits .accident-year), c .before .before .before .before .named-list .ensures) at (c .row-of .ensures))
-    ∙ accepted-row (s .args .years) _ _ (s .args .accident-year) (amounts-of (s .args .named)) (passed (c .before))
+    let list = c .before .before .before .before .named-list .ensures in
+    record {
+      holds = (simp (toZ-ofZ (s .fits .years), toZ-ofZ (s .fits .accident-year), list, named-holds) at (c .row-of .ensures .0))
+          ∙ accepted-row (s .args .years) _ _ (s .args .accident-year) (amounts-of (s .args .named)) (passed (c .before));
+      own-part = λ yes. simp (toZ-ofZ (s .fits .years), toZ-ofZ (s .fits .accident-year), list) at (c .row-of .ensures .1);
+    }
 
 pub row-spec : {M : Type 1} → statement M
 row-spec =

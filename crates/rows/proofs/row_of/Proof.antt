@@ -1,9 +1,10 @@
 -- The row begins where it and the later rows end the list.
 use borrow.Author.Needs.{needs}
+use mathlib.Core.Path.{refl}
 use Prim.Native.Nat.{_+_, _-_}
 use native.Mathlib.Omega.{arith}
 use Rattle.verdicts.proofs.Counts.{few-cells}
-use Rattle.rows.proofs.RowParts.{rest-inside, end-inside, part-is}
+use Rattle.rows.proofs.RowParts.{from-end, rest-inside, end-inside, part-is}
 use Rattle.rows.proofs.row_of.Statement.{statement}
 use Rattle.rows.proofs.row_of.Tie as tie
 
@@ -38,7 +39,7 @@ part-result-end : tie.Need-part-result-end
 part-result-end c = let l = end-inside _ _ _ (c .pre) in search needs
 
 returns : tie.Need-returns
-returns c = part-is _ _ _ (c .before .pre)
+returns c = (part-is _ _ _ (c .before .pre), record { same-block = refl; offset = omega (arith, from-end _ _ _ (c .before .pre)) })
 
 pub row-of-spec : {M : Type 1} → statement M
 row-of-spec =
