@@ -1,4 +1,4 @@
--- The call that fills both lists: accepted and refused, its whole answer is the definition's, and demand 3 holds of what it leaves.
+-- The call that fills both lists: accepted and refused, its whole answer is the definition's, demand 1 holds of its verdict, and demand 3 of what it leaves.
 use mathlib.Core.Path.{_≡_, refl, sym, ap, _∙_, subst}
 use mathlib.Core.List.{List}
 use Prim.Native.Nat.{ℕ}
@@ -7,9 +7,11 @@ use lib.ListN.{length, replicate}
 use Rattle.method.specs.Triangle.{Triangle, n}
 use Rattle.method.specs.Questions.{Place, Verdict, accepted, refused, questions, lengths-right}
 use Rattle.method.specs.Answers.{Answer, answer}
+use Rattle.method.specs.Demand1.{Demand-1}
 use Rattle.method.specs.Claim.{Demand-3}
 use Rattle.method.proofs.FirstRefusal.{not-both, stopped}
 use Rattle.method.proofs.WholeAnswers.{filled-verdict, accepted-answer, refused-answer}
+use Rattle.method.proofs.ProofOfDemand1.{demand-1}
 use Rattle.method.proofs.ProofOfDemand3.{demand-3}
 use Rattle.questions.specs.declared.inputs.AnswerLists.the-variants.{OfLengths}
 use Rattle.verdicts.specs.Verdicts.{verdict-of}
@@ -54,15 +56,21 @@ module _ {t : Triangle} {future-before reserves-before : List ℤ} where
         ap (λ (x : Verdict). answered x (replicate (length future-before) (pos 0)) (replicate (length reserves-before) (pos 0))) d
         ∙ sym (refused-answer t (length future-before) (length reserves-before) question p (sym (f .verdict-is) ∙ d))
 
-    said : v ≡ accepted → answer t (length future-before) (length reserves-before) .verdict ≡ accepted
+    verdict-said : answer t (length future-before) (length reserves-before) .verdict ≡ v
     unfolding answer
-    said a = filled-verdict t _ _ (questions t (lengths-right t (length future-before) (length reserves-before))) ∙ sym (f .verdict-is) ∙ a
+    verdict-said = filled-verdict t _ _ (questions t (lengths-right t (length future-before) (length reserves-before))) ∙ sym (f .verdict-is)
+
+    said : v ≡ accepted → answer t (length future-before) (length reserves-before) .verdict ≡ accepted
+    said a = verdict-said ∙ a
 
     pub accepted-whole : v ≡ accepted → answered v future reserves ≡ answer t (length future-before) (length reserves-before)
     accepted-whole a = same a (f .future-is a) (f .reserves-are a) ∙ sym (accepted-answer t (length future-before) (length reserves-before) (said a))
       where
         same : {v w : Verdict} {a b c d : List ℤ} → v ≡ w → a ≡ c → b ≡ d → answered v a b ≡ answered w c d
         same p q r = cc
+
+    pub demand-1-holds : Demand-1 t (length future-before) (length reserves-before) v
+    demand-1-holds = subst (Demand-1 t (length future-before) (length reserves-before)) verdict-said (demand-1 .both-lists t (length future-before) (length reserves-before))
 
     pub demand-3-holds : v ≡ accepted → Demand-3 t future reserves
     demand-3-holds a = subst (λ (x : Answer). Demand-3 t (x .future) (x .reserves)) (sym (accepted-whole a)) (demand-3 t (length future-before) (length reserves-before) (said a))

@@ -3,6 +3,7 @@ ghost use mathlib.Core.Path.{_≡_};
 ghost use lib.ListN.{length};
 ghost use Rattle.method.specs.Questions.{accepted};
 ghost use Rattle.method.specs.Answers.{answer};
+ghost use Rattle.method.specs.Demand1.{Demand-1};
 ghost use Rattle.method.specs.Claim.{Demand-3};
 ghost use Rattle.verdicts.specs.Verdicts.{verdict-of};
 ghost use Rattle.questions.specs.Lent.{lent};
@@ -32,6 +33,9 @@ pub fn reserve<'a>(
     ensures { λ r. ⌜ (verdict-of r ≡ accepted → Demand-3
         (lent years cut (now (payments .entry)) (now (adjustments .entry)) (now (weights .entry)) (now (openings .entry)))
         (now (future .exit)) (now (reserves .exit))) ⌝ }
+    ensures { λ r. ⌜ Demand-1
+        (lent years cut (now (payments .entry)) (now (adjustments .entry)) (now (weights .entry)) (now (openings .entry)))
+        (length (now (future .entry))) (length (now (reserves .entry))) (verdict-of r) ⌝ }
 {
     let verdict = fill(
         years,

@@ -14,5 +14,7 @@ pub mod Projection
 pub mod Readings
 pub mod KeptAllowances
 pub mod WholeAnswers
+pub mod AskedQuestions
+pub mod ProofOfDemand1
 pub mod ProofOfDemand3
 pub mod SingleCell

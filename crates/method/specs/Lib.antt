@@ -7,6 +7,7 @@ pub mod ProjectedYear
 pub mod Unrounded
 pub mod Questions
 pub mod Answers
+pub mod Demand1
 pub mod Claim
 pub mod Examples
 pub mod OtherReadings

@@ -9,7 +9,7 @@ use mir.Facts.{toZ-ofZ}
 use Rattle.verdicts.specs.Verdicts.{verdict-of}
 use Rattle.questions.specs.Lent.{lent}
 use Rattle.calls.specs.Answers.{Filled}
-use Rattle.calls.proofs.BothLists.{refused-whole, accepted-whole, demand-3-holds}
+use Rattle.calls.proofs.BothLists.{refused-whole, accepted-whole, demand-1-holds, demand-3-holds}
 use Rattle.calls.proofs.reserve.reserve.Statement.{statement}
 use Rattle.calls.proofs.reserve.reserve.Tie as tie
 
@@ -52,7 +52,7 @@ returns c =
         c .before .clear2 .ensures ∙ ap (λ (x : ℕ). replicate x (pos 0)) (f .reserves-length),
       )
           (refused-whole f d),
-      λ a. absurd (not-both a d),
+      (λ a. absurd (not-both a d), demand-1-holds f),
     )
 
 same-length-3 : tie.Need-same-length-3
@@ -65,7 +65,7 @@ returns-2 : tie.Need-returns-2
 returns-2 c =
     let f = filled (c .before .before .before .before) in
     let yes = ap verdict-of (c .enum-told .given .1) in
-    (accepted-whole f yes, demand-3-holds f)
+    (accepted-whole f yes, (demand-3-holds f, demand-1-holds f))
 
 pub reserve-spec : {M : Type 1} → statement M
 reserve-spec =
