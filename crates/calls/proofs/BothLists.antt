@@ -6,6 +6,7 @@ use lib.IntN.{ℤ, pos}
 use lib.ListN.{length, replicate}
 use Rattle.method.specs.Triangle.{Triangle, n}
 use Rattle.method.specs.Questions.{Place, Verdict, accepted, refused, questions, lengths-right}
+use Rattle.method.specs.RunOff.{method}
 use Rattle.method.specs.Answers.{Answer, answer}
 use Rattle.method.specs.Demand1.{Demand-1}
 use Rattle.method.specs.Claim.{Demand-3}
@@ -58,7 +59,7 @@ module _ {t : Triangle} {future-before reserves-before : List ℤ} where
 
     verdict-said : answer t (length future-before) (length reserves-before) .verdict ≡ v
     unfolding answer
-    verdict-said = filled-verdict t _ _ (questions t (lengths-right t (length future-before) (length reserves-before))) ∙ sym (f .verdict-is)
+    verdict-said = filled-verdict (method t) _ _ (questions t (lengths-right t (length future-before) (length reserves-before))) ∙ sym (f .verdict-is)
 
     said : v ≡ accepted → answer t (length future-before) (length reserves-before) .verdict ≡ accepted
     said a = verdict-said ∙ a
@@ -72,5 +73,5 @@ module _ {t : Triangle} {future-before reserves-before : List ℤ} where
     pub demand-1-holds : Demand-1 t (length future-before) (length reserves-before) v
     demand-1-holds = subst (Demand-1 t (length future-before) (length reserves-before)) verdict-said (demand-1 .both-lists t (length future-before) (length reserves-before))
 
-    pub demand-3-holds : v ≡ accepted → Demand-3 t future reserves
-    demand-3-holds a = subst (λ (x : Answer). Demand-3 t (x .future) (x .reserves)) (sym (accepted-whole a)) (demand-3 t (length future-before) (length reserves-before) (said a))
+    pub demand-3-holds : v ≡ accepted → Demand-3 (method t) future reserves
+    demand-3-holds a = subst (λ (x : Answer). Demand-3 (method t) (x .future) (x .reserves)) (sym (accepted-whole a)) (demand-3 t (length future-before) (length reserves-before) (said a))

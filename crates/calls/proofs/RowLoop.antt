@@ -17,7 +17,7 @@ use Rattle.integers.proofs.LinearFacts.{integers, ≤ℤ-by}
 use Rattle.integers.proofs.Order.{*ℤ-nonneg, natAbs-in-range, natAbs-+ℤ, natAbs-≤}
 use Rattle.method.specs.Limits.{one-unit, greatest-figure, greatest-outstanding, most-accident-years}
 use Rattle.method.specs.ProjectedYear as meaning
-use Rattle.method.specs.ProjectedYear.{next-year, figures}
+use Rattle.method.specs.ProjectedYear.{figures, next-year}
 use Rattle.method.specs.Questions.{accepted, refused, at, figures-in-range}
 use Rattle.method.proofs.Counting.{up-to-none, up-to-more}
 use Rattle.method.proofs.Sums.{sum-none, sum-more}

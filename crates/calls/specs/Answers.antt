@@ -4,7 +4,8 @@ use mathlib.Core.List.{List}
 use lib.IntN.{ℤ}
 use lib.ListN.{length}
 use Rattle.method.specs.Triangle.{Triangle}
-use Rattle.method.specs.ProjectedYear as meaning
+use Rattle.method.specs.RunOff.{method}
+use Rattle.method.specs.RunOff as meaning
 use Rattle.method.specs.Questions.{Verdict, accepted, questions, lengths-right}
 use Rattle.method.specs.Answers.{Answer}
 
@@ -15,7 +16,7 @@ answered verdict future reserves = record { verdict = verdict; future = future; 
 -- both lists filled, where all questions accept; what a refusal leaves in them is cleared afterwards
 pub record Filled (t : Triangle) (future-before reserves-before : List ℤ) (v : Verdict) (future reserves : List ℤ) : Type 0 where
   pub verdict-is : v ≡ questions t (lengths-right t (length future-before) (length reserves-before))
-  pub future-is : v ≡ accepted → future ≡ meaning.future t
-  pub reserves-are : v ≡ accepted → reserves ≡ meaning.reserves t
+  pub future-is : v ≡ accepted → future ≡ meaning.future (method t)
+  pub reserves-are : v ≡ accepted → reserves ≡ meaning.reserves (method t)
   pub future-length : length future ≡ length future-before
   pub reserves-length : length reserves ≡ length reserves-before

@@ -10,7 +10,7 @@ use Rattle.method.specs.Limits.{one-unit, greatest-outstanding, most-accident-y
 use Rattle.method.specs.Counting.{sum-to, list-to}
 use Rattle.method.specs.Triangle.{entry}
 use Rattle.method.specs.Outstandings as meaning
-use Rattle.method.specs.ProjectedYear.{Movement, next-year, figures}
+use Rattle.method.specs.ProjectedYear.{Movement, figures, next-year}
 use Rattle.method.specs.Questions.{Verdict, accepted, at, ask, first-to, figures-in-range}
 use Rattle.share.specs.Share.{greatest-size}
 use Rattle.verdicts.specs.Verdicts.{verdict-of}

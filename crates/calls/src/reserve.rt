@@ -1,6 +1,7 @@
 // The call that fills both answer lists.
 ghost use mathlib.Core.Path.{_≡_};
 ghost use lib.ListN.{length};
+ghost use Rattle.method.specs.RunOff.{method};
 ghost use Rattle.method.specs.Questions.{accepted};
 ghost use Rattle.method.specs.Answers.{answer};
 ghost use Rattle.method.specs.Demand1.{Demand-1};
@@ -31,7 +32,7 @@ pub fn reserve<'a>(
         (lent years cut (now (payments .entry)) (now (adjustments .entry)) (now (weights .entry)) (now (openings .entry)))
         (length (now (future .entry))) (length (now (reserves .entry))) ⌝ }
     ensures { λ r. ⌜ (verdict-of r ≡ accepted → Demand-3
-        (lent years cut (now (payments .entry)) (now (adjustments .entry)) (now (weights .entry)) (now (openings .entry)))
+        (method (lent years cut (now (payments .entry)) (now (adjustments .entry)) (now (weights .entry)) (now (openings .entry))))
         (now (future .exit)) (now (reserves .exit))) ⌝ }
     ensures { λ r. ⌜ Demand-1
         (lent years cut (now (payments .entry)) (now (adjustments .entry)) (now (weights .entry)) (now (openings .entry)))

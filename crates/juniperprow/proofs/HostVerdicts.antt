@@ -5,6 +5,7 @@ use Prim.Native.Nat.{ℕ}
 use lib.IntN.{ℤ, pos, natAbs}
 use Rattle.method.specs.Triangle.{Triangle}
 use Rattle.method.specs.Questions.{Verdict, accepted, number, questions, lengths-right}
+use Rattle.method.specs.RunOff.{method}
 use Rattle.method.specs.Answers.{Answer, answer}
 use Rattle.method.specs.Claim.{Demand-3}
 use Rattle.method.proofs.Numbers.{number-0}
@@ -19,14 +20,14 @@ module _ (t : Triangle) (f r : ℕ) {v : Verdict} {future reserves : List ℤ} (
 
   is-questions : v ≡ questions t (lengths-right t f r)
   unfolding answer
-  is-questions = verdict-is ∙ filled-verdict t f r (questions t (lengths-right t f r))
+  is-questions = verdict-is ∙ filled-verdict (method t) f r (questions t (lengths-right t f r))
 
   accepted-by-number : {h : VerdictAnswer} → h ≡ verdict-answer v → h .number ≡ pos 0 → v ≡ accepted
   unfolding verdict-answer
   accepted-by-number g z =
       is-questions ∙ number-0 t (lengths-right t f r) (ap number (sym is-questions) ∙ ap natAbs (sym (ap (λ (x : VerdictAnswer). x .number) g) ∙ z))
 
-  pub reserve-answered : (h : VerdictAnswer) → h ≡ verdict-answer v → (v ≡ accepted → Demand-3 t future reserves) → ReserveAnswered t f r h future reserves
+  pub reserve-answered : (h : VerdictAnswer) → h ≡ verdict-answer v → (v ≡ accepted → Demand-3 (method t) future reserves) → ReserveAnswered t f r h future reserves
   reserve-answered h g d = record {
     verdict-is = g ∙ ap verdict-answer verdict-is;
     future-is = ap (λ (a : Answer). a .future) e;

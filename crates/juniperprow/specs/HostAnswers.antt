@@ -5,6 +5,7 @@ use Prim.Native.Nat.{ℕ}
 use lib.IntN.{ℤ, pos}
 use Rattle.method.specs.Triangle.{Triangle}
 use Rattle.method.specs.Questions.{Verdict, number, place}
+use Rattle.method.specs.RunOff.{method}
 use Rattle.method.specs.Answers.{answer}
 use Rattle.method.specs.Answers as meaning
 use Rattle.method.specs.Claim.{Demand-3}
@@ -33,4 +34,4 @@ pub record ReserveAnswered (t : Triangle) (future-room reserves-room : ℕ) (r :
   pub future-is : future ≡ answer t future-room reserves-room .future
   pub reserves-are : reserves ≡ answer t future-room reserves-room .reserves
   -- and demand 3 of these lists, where the number is 0
-  pub demand-3 : r .number ≡ pos 0 → Demand-3 t future reserves
+  pub demand-3 : r .number ≡ pos 0 → Demand-3 (method t) future reserves

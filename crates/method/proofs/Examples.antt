@@ -2,13 +2,13 @@
 use mathlib.Core.Path.{refl}
 use Prim.Native.Nat.{ℕ}
 use lib.Signed.{ltZ-yes}
-use Rattle.integers.specs.Fraction.{Fraction, _⊕_, _⊗_}
+use Rattle.integers.specs.Fraction.{Fraction, _⊕_, _⊖_, _⊗_}
 use Rattle.integers.specs.HalfUp.{floor, half-up}
 use Rattle.method.specs.Counting.{up-to}
 use Rattle.method.specs.Triangle.{Triangle, cells-before, cell, entry}
 use Rattle.method.specs.Outstandings.{R, sums}
-use Rattle.method.specs.ProjectedYear.{share, next-year, figures, account, O, movement, future-row, future, paid-reserve, incurred-reserve, closing, reserves-row, reserves}
-use Rattle.method.specs.Unrounded.{unrounded-payment, unrounded-adjustment, unrounded-next, payment-allowance, adjustment-allowance, next-allowance, U, A, paid-allowance, incurred-allowance}
+use Rattle.method.specs.ProjectedYear.{figures, share, next-year, unrounded-year, allowed-year}
+use Rattle.method.specs.RunOff.{account, O, U, A, movement, unrounded-movement, allowance, future-row, future, paid-reserve, incurred-reserve, closing, reserves-row, reserves, paid-allowance, incurred-allowance, method}
 use Rattle.method.specs.Questions.{number, place, _then_, ask, first-to, each-in-row, each-cell, years-in-range, figures-in-range, cut-in-range, input-lengths-right, lengths-right, weight-in-range, amount-right, known, outstanding-in-range, unweighted, weight-allowed, exposure-positive, question-1, question-2, question-3, question-4, question-5, question-6, question-7, question-8, question-9-of-year, question-9, list-questions, input-questions, observed-questions, questions, cell-unseen, accident-year-in-range, question-10}
 use Rattle.method.specs.Answers.{Answer, filled, answer, cell-verdict, cell-figures, single-cell, both-lengths-right, row-verdict, named-list, row-of, row}
 use Rattle.method.specs.Examples.{Hold, E1-to-E12, E2-uses-its-allowances, E5-allowances}
@@ -22,8 +22,8 @@ computed t future-room reserves-room = answer t future-room reserves-room
 
 -- the same for an allowance and an unrounded outstanding
 allowed : Triangle → ℕ → ℕ → Fraction
-unfolding computed unrounded-payment unrounded-adjustment unrounded-next payment-allowance adjustment-allowance next-allowance U A paid-allowance incurred-allowance _⊕_ _⊗_
-allowed t i k = A t i k
+unfolding computed unrounded-year allowed-year U A unrounded-movement allowance paid-allowance incurred-allowance _⊕_ _⊖_ _⊗_
+allowed t i k = A (method t) i k
 
 pub E1-to-E12-hold : Hold E1-to-E12
 unfolding computed

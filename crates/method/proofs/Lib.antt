@@ -1,4 +1,4 @@
--- Laws of the definitions and proofs of the statements in specs/. From below: tests and verdicts, lists, sums, the projection, the claim.
+-- Laws of the definitions and proofs of the statements in specs/. From below: tests and verdicts, lists, sums, any rule of a year, the projection, the claim.
 pub mod Examples
 pub mod Tests
 pub mod Counting
@@ -10,9 +10,10 @@ pub mod Lists
 pub mod Rows
 pub mod Sums
 pub mod SumBounds
+pub mod RunOff
+pub mod KeptAllowances
 pub mod Projection
 pub mod Readings
-pub mod KeptAllowances
 pub mod WholeAnswers
 pub mod AskedQuestions
 pub mod ProofOfDemand1

@@ -1,32 +1,30 @@
--- The projected outstandings: how an account of a row goes on, that a year leaves none negative, and how the reserves and the closing meet.
-use mathlib.Core.Path.{_≡_, refl, sym, ap, _∙_}
-use Prim.Native.Nat.{ℕ, zero, suc, _+_, _-_, _≤_, _<_}
-use native.Mathlib.Nat.{add-zero}
-use native.Mathlib.Decide.{decLe}
+-- The rule of document 01: that a year leaves no outstanding negative, that it keeps allowances, and when the last year leaves nothing.
+use mathlib.Core.Path.{_≡_, refl, sym, ap, _∙_, subst}
+use Prim.Native.Nat.{ℕ, suc, _-_, _≤_, _<_}
 use native.Mathlib.Omega.{arith}
-use borrow.Author.Tests.{le-leb, lt-leb}
 use lib.IntN.{ℤ, pos, _+ℤ_, _-ℤ_, _*ℤ_, +ℤ-idl, *ℤ-zero}
 use lib.Signed.{_≤ℤ_, _<ℤ_}
-use Rattle.integers.proofs.RingSolver.{con, _:+_, _:-_, _:=_, ring}
+use Rattle.integers.specs.Fraction.{Fraction, size, _over_, _⊕_, _⊖_, _⊗_, _≈_, Within}
+use Rattle.integers.proofs.RingSolver.{con, _:+_, _:-_, _:*_, _:=_, ring}
+use Rattle.integers.proofs.Order.{*ℤ-positive, size-of-nonneg}
 use Rattle.integers.proofs.Rounding.{Nearest, half-up-nearest}
-use Rattle.integers.proofs.Nearness.{balance-nonneg, balance-zero}
-use Rattle.method.specs.Limits.{one-unit}
+use Rattle.integers.proofs.Nearness.{nearest-within, balance-within, balance-nonneg, balance-zero, share-within}
+use Rattle.integers.proofs.SameNumber.{same, within-same}
 use Rattle.method.specs.Counting.{up-to, sum-to}
 use Rattle.method.specs.Triangle.{Triangle, n, w}
 use Rattle.method.specs.Outstandings.{Sums, R, sums}
-use Rattle.method.specs.ProjectedYear.{share, next-year, account, O, movement, last-observed, year-before, paid-reserve, incurred-reserve, closing}
-use Rattle.method.proofs.QuestionFacts.{Observed}
-use Rattle.method.proofs.SumBounds.{factor-is}
+use Rattle.method.specs.ProjectedYear.{share, next-year, unrounded-year, allowed-year}
+use Rattle.method.specs.RunOff.{O, movement, method}
+use Rattle.method.specs.Claim.{Projected}
+use Rattle.method.proofs.QuestionFacts.{Observed, Accepted}
+use Rattle.method.proofs.SumBounds.{factor-is, sums-in-range}
+use Rattle.method.proofs.KeptAllowances.{KeptYear, Keeps}
 
 -- ---- One year
 
 pub share-nearest : (r part d : ℤ) → pos 0 <ℤ d → Nearest (r *ℤ part) d (share r part d)
 unfolding share
 share-nearest r part d h = half-up-nearest (r *ℤ part) d h
-
-pub next-outstanding : (r : ℤ) (s : Sums) → next-year r s .outstanding ≡ r -ℤ next-year r s .payment +ℤ next-year r s .adjustment
-unfolding next-year
-next-outstanding r s = refl
 
 module _ (r : ℤ) (s : Sums) (h : pos 0 <ℤ s .D) where
   pub next-nonneg : pos 0 ≤ℤ r → pos 0 ≤ℤ (s .D -ℤ s .P +ℤ s .Q) → pos 0 ≤ℤ next-year r s .outstanding
@@ -39,87 +37,73 @@ module _ (r : ℤ) (s : Sums) (h : pos 0 <ℤ s .D) where
   next-zero = balance-zero r (s .P) (s .Q) (s .D) (share r (s .P) (s .D)) (share r (s .Q) (s .D)) h
       (share-nearest r (s .P) (s .D) h) (share-nearest r (s .Q) (s .D) h)
 
--- ---- An account of a row
+  -- from an outstanding r that keeps its allowance a of the unrounded u
+  module _ (u a : Fraction) (k : Within r u a) where
+    -- a share keeps the outstanding's allowance times the size of its ratio, plus one half
+    rounded-share : (part : ℤ) → Within (share r part (s .D)) (u ⊗ part over s .D) (a ⊗ size part over s .D ⊕ pos 1 over pos 2)
+    rounded-share part =
+        share-within r part (s .D) (share r part (s .D)) u a (pos 1 over pos 2) h k
+        (nearest-within (r *ℤ part) (s .D) (share r part (s .D)) h (share-nearest r part (s .D) h))
 
-module _ (t : Triangle) {X : Type 0} (observed : ℤ → X) (next : X → Sums → X) where
-  pub account-observed : (i k : ℕ) → i + k ≤ n t + 1 → account t observed next i k ≡ observed (R t i k *ℤ one-unit)
-  unfolding account
-  account-observed i zero h = refl
-  account-observed i (suc k) h = rw (le-leb (i + suc k) (n t + 1) h, account)
+    abbrev φ : ℤ
+    φ = s .D -ℤ s .P +ℤ s .Q
 
-  pub account-projected : (i k : ℕ) → n t < i + k → account t observed next i (suc k) ≡ next (account t observed next i k) (sums t k)
-  unfolding account
-  account-projected i k h = rw (lt-leb (i + suc k) (n t + 1) (omega arith), account)
+    abbrev b : ℤ
+    b = r -ℤ share r (s .P) (s .D) +ℤ share r (s .Q) (s .D)
 
-module _ (t : Triangle) where
-  pub O-observed : (i k : ℕ) → i + k ≤ n t + 1 → O t i k ≡ R t i k *ℤ one-unit
-  unfolding O
-  O-observed = account-observed t (λ r. r) (λ r s. next-year r s .outstanding)
+    -- the two roundings together move the outstanding by less than 1 from its share by the outstanding factor
+    by-the-factor : pos 0 ≤ℤ φ → Within b (u ⊗ φ over s .D) (a ⊗ φ over s .D ⊕ pos 1 over pos 1)
+    by-the-factor f =
+        subst (λ (x : ℤ). Within b (u ⊗ φ over s .D) (a ⊗ x over s .D ⊕ pos 1 over pos 1)) (size-of-nonneg φ f)
+        (share-within r φ (s .D) b u a (pos 1 over pos 1) h k
+        (balance-within r (s .P) (s .Q) (s .D) (share r (s .P) (s .D)) (share r (s .Q) (s .D)) h
+        (share-nearest r (s .P) (s .D) h) (share-nearest r (s .Q) (s .D) h)))
 
-  pub O-projected : (i k : ℕ) → n t < i + k → O t i (suc k) ≡ movement t i k .outstanding
-  unfolding O movement
-  O-projected = account-projected t (λ r. r) (λ r s. next-year r s .outstanding)
+    -- u by the outstanding factor is u less its payment plus its adjustment
+    factor-apart : u ⊗ φ over s .D ≈ u ⊖ u ⊗ s .P over s .D ⊕ u ⊗ s .Q over s .D
+    unfolding _⊕_ _⊖_ _⊗_
+    factor-apart = record {
+      left-positive = uD;
+      right-positive = *ℤ-positive _ _ (*ℤ-positive _ _ (k .figure-positive) uD) uD;
+      across = ring 5
+          (λ m d P Q D. m :* (D :- P :+ Q) :* (d :* (d :* D) :* (d :* D)) := ((m :* (d :* D) :- m :* P :* d) :* (d :* D) :+ m :* Q :* (d :* (d :* D))) :* (d :* D)) tt
+          (u .numerator) (u .denominator) (s .P) (s .Q) (s .D);
+    }
+      where
+        uD : pos 0 <ℤ (u .denominator *ℤ s .D)
+        uD = *ℤ-positive (u .denominator) (s .D) (k .figure-positive) h
 
-  movement-outstanding : (i k : ℕ) → movement t i k .outstanding ≡ O t i k -ℤ movement t i k .payment +ℤ movement t i k .adjustment
-  unfolding movement
-  movement-outstanding i k = next-outstanding (O t i k) (sums t k)
+    pub year-kept : pos 0 ≤ℤ (s .D -ℤ s .P +ℤ s .Q) → KeptYear (next-year r s) (unrounded-year u s) (allowed-year a s)
+    unfolding next-year unrounded-year allowed-year
+    year-kept f = record {
+      payment = rounded-share (s .P);
+      adjustment = rounded-share (s .Q);
+      outstanding = within-same factor-apart (same (by-the-factor f .allowance-positive)) (by-the-factor f);
+    }
 
--- ---- Incurred less paid reserve is the closing outstanding
+-- ---- An accepted triangle
 
-module _ (t : Triangle) (i : ℕ) (h : i ≤ n t) where
-  payments-to : ℕ → ℤ
-  payments-to m = sum-to m (λ j. movement t i (year-before t i j) .payment)
-
-  adjustments-to : ℕ → ℤ
-  adjustments-to m = sum-to m (λ j. movement t i (year-before t i j) .adjustment)
-
-  outstanding-after : (m : ℕ) → m ≤ i - 1 → O t i (last-observed t i + m) ≡ R t i (last-observed t i) *ℤ one-unit -ℤ payments-to m +ℤ adjustments-to m
-  unfolding payments-to adjustments-to up-to
-  outstanding-after zero l =
-      ap (λ (x : ℕ). O t i x) (add-zero (last-observed t i)) ∙ O-observed t i (last-observed t i) (omega arith)
-      ∙ ring 1 (λ x. x := x :- con (pos 0) :+ con (pos 0)) tt (R t i (last-observed t i) *ℤ one-unit)
-  outstanding-after (suc m) l =
-      let k : ℕ = year-before t i (suc m) in
-      let s : last-observed t i + suc m ≡ suc k = omega arith in
-      let u : k ≡ last-observed t i + m = omega arith in
-      ap (λ (x : ℕ). O t i x) s
-      ∙ O-projected t i k (omega arith)
-      ∙ movement-outstanding t i k
-      ∙ ap (λ (x : ℤ). x -ℤ movement t i k .payment +ℤ movement t i k .adjustment) (ap (λ (x : ℕ). O t i x) u ∙ outstanding-after m (omega arith))
-      ∙ ring 5 (λ x a b p q. x :- a :+ b :- p :+ q := x :- (a :+ p) :+ (b :+ q)) tt
-      (R t i (last-observed t i) *ℤ one-unit) (payments-to m) (adjustments-to m) (movement t i k .payment) (movement t i k .adjustment)
-
-pub incurred-less-paid-is-closing : (t : Triangle) (i : ℕ) → 1 ≤ i → i ≤ n t → incurred-reserve t i -ℤ paid-reserve t i ≡ closing t i
-unfolding incurred-reserve paid-reserve closing payments-to adjustments-to
-incurred-less-paid-is-closing t i p h =
-    let e : last-observed t i + (i - 1) ≡ n t = omega arith in
-    ring 3 (λ x p a. x :+ a :- p := x :- p :+ a) tt (R t i (last-observed t i) *ℤ one-unit) (payments-to t i h (i - 1)) (adjustments-to t i h (i - 1))
-    ∙ sym (outstanding-after t i h (i - 1) (omega arith)) ∙ ap (λ (x : ℕ). O t i x) e
-
--- ---- Where every exposure is above 0
-
-module _ (t : Triangle) (ok : Observed t) (exposure : (k : ℕ) → 1 ≤ k → k < n t → pos 0 <ℤ sums t k .D) where
+module _ (t : Triangle) (ok : Accepted t) where
   -- where the oldest year's last outstanding is 0, so is the last outstanding factor
-  last-factor-zero : (k : ℕ) → n t ≡ suc k → R t 1 (n t) ≡ pos 0 → sums t k .D -ℤ sums t k .P +ℤ sums t k .Q ≡ pos 0
+  last-factor-zero : (k : ℕ) → suc k ≡ n t → R t 1 (n t) ≡ pos 0 → sums t k .D -ℤ sums t k .P +ℤ sums t k .Q ≡ pos 0
   unfolding up-to
   last-factor-zero k e z =
       let s : n t - k ≡ 1 = omega arith in
       factor-is t k
       ∙ ap (λ (m : ℕ). sum-to m (λ i. w t i k *ℤ R t i (suc k))) s
       ∙ +ℤ-idl (w t 1 k *ℤ R t 1 (suc k))
-      ∙ ap (λ (m : ℕ). w t 1 k *ℤ R t 1 m) (sym e)
+      ∙ ap (λ (m : ℕ). w t 1 k *ℤ R t 1 m) e
       ∙ ap (λ x. w t 1 k *ℤ x) z
       ∙ *ℤ-zero (w t 1 k)
 
-  pub all-close : R t 1 (n t) ≡ pos 0 → (i : ℕ) → 1 ≤ i → i ≤ n t → closing t i ≡ pos 0
-  unfolding closing movement
-  all-close z i p q = go (decLe i 1) (n t) refl
-    where
-      go : Dec (i ≤ 1) → (m : ℕ) → n t ≡ m → O t i (n t) ≡ pos 0
-      go (yes l) m e =
-          let s : i ≡ 1 = omega arith in
-          O-observed t i (n t) (omega arith) ∙ ap (λ (x : ℕ). R t x (n t) *ℤ one-unit) s ∙ ap (λ x. x *ℤ one-unit) z
-      go (no l) zero e = absurd (omega (arith, ok .years .fewest))
-      go (no l) (suc k) e =
-          ap (λ (x : ℕ). O t i x) e ∙ O-projected t i k (omega arith)
-          ∙ next-zero (O t i k) (sums t k) (exposure k (omega (arith, ok .years .fewest)) (omega arith)) (last-factor-zero k e z)
+  pub method-keeps : Keeps (method t)
+  unfolding movement next-year
+  method-keeps = record {
+    some-year = omega (arith, ok .observed .years .fewest);
+    moves = λ i k r. refl;
+    year = λ i k p r u a b.
+        year-kept r (sums t k) (ok .exposure k (omega (arith, p .row, p .after)) (p .year)) u a b
+        (sums-in-range t (ok .observed) k (omega (arith, p .row, p .after)) (p .year) .factor-nonneg);
+    closes = λ z i k p e.
+        next-zero (O (method t) i k) (sums t k) (ok .exposure k (omega (arith, p .row, p .after)) (p .year)) (last-factor-zero k e z);
+  }

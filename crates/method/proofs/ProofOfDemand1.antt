@@ -11,7 +11,8 @@ use Rattle.integers.specs.Fraction.{size}
 use Rattle.method.specs.Limits.{greatest-figure}
 use Rattle.method.specs.Triangle.{Triangle, n, Y, S, T, w, amounts-length, weights-length, openings-length, future-length, reserves-length}
 use Rattle.method.specs.Outstandings.{R, sums}
-use Rattle.method.specs.ProjectedYear.{Movement, movement, year-before}
+use Rattle.method.specs.ProjectedYear.{Movement}
+use Rattle.method.specs.RunOff.{movement, year-before, method}
 use Rattle.method.specs.Questions.{Verdict, accepted, _then_, each-cell, years-in-range, cut-in-range, input-lengths-right, lengths-right, weight-in-range, amount-right, known, outstanding-in-range, unweighted, weight-allowed, exposure-positive, figures-in-range, question-1, question-2, question-3, question-4, question-5, question-6, question-7, question-8, question-9-of-year, question-9, list-questions, input-questions, observed-questions, questions, cell-unseen, accident-year-in-range, question-10}
 use Rattle.method.specs.Answers.{answer, both-lengths-right, cell-verdict, row-verdict}
 use Rattle.method.specs.Demand1.{Question, From-to, InputLengthsRight, LengthsRight, Amount-right, Figure-right, Figures-right, triangle-questions, Demand-1, Demand-1-of-cell, Demand-1-of-row, Demand-1-of-every-call}
@@ -52,12 +53,12 @@ module _ (t : Triangle) where
   unfolding amount-right
   says-amount amount i k = says-and (says-from-to _ _ (amount i k)) (says-unless (says-leb (i + k) (Y t)) (says-zero (amount i k)))
 
-  figures-of : (i k : ℕ) → let m = movement t i (suc k - 1) in
-      Says (figures-in-range (movement t i k)) (Figure-right (m .payment) × Figure-right (m .adjustment) × Figure-right (m .outstanding))
+  figures-of : (i k : ℕ) → let m = movement (method t) i (suc k - 1) in
+      Says (figures-in-range (movement (method t) i k)) (Figure-right (m .payment) × Figure-right (m .adjustment) × Figure-right (m .outstanding))
   figures-of i k =
       let e : k ≡ suc k - 1 = omega arith in
-      subst (λ (x : ℕ). let m = movement t i x in Says (figures-in-range (movement t i k)) (Figure-right (m .payment) × Figure-right (m .adjustment) × Figure-right (m .outstanding)))
-      e (says-figures (movement t i k))
+      subst (λ (x : ℕ). let m = movement (method t) i x in Says (figures-in-range (movement (method t) i k)) (Figure-right (m .payment) × Figure-right (m .adjustment) × Figure-right (m .outstanding)))
+      e (says-figures (movement (method t) i k))
 
   -- ---- Questions 1 to 9, and what is asked after them
 
@@ -86,10 +87,10 @@ module _ (t : Triangle) where
       and-then row _ 0 (n t - 1) (λ j. j) (exposure-positive t) (λ a k x. (x .0, record { j = k; first = x .1; last = x .2; is = refl }))
       (λ j j′ l. l) (λ j p l. told (refl, p, l) (says-< (pos 0) (sums t j .D)))
       and-then (rows _ (n t) (question-9-of-year t) (λ i k x. (omega (arith, x .1, x .2), x .0))
-      (λ i p l. row _ i (i - 1) (λ j. suc (year-before t i j)) (λ j. figures-in-range (movement t i (year-before t i j)))
+      (λ i p l. row _ i (i - 1) (λ j. suc (year-before (method t) i j)) (λ j. figures-in-range (movement (method t) i (year-before (method t) i j)))
       (λ a k x. (x .0, let (c, d, e) = x .1 in record { j = i + k - (n t + 1); first = omega (arith, x .0, e); last = omega (arith, x .0, d, l); is = omega (arith, x .0, e, l) }))
       (λ j j′ h. omega arith)
-      (λ j g h. in-own-row (told (l, omega (arith, l), omega (arith, l)) (figures-of i (year-before t i j))))))
+      (λ j g h. in-own-row (told (l, omega (arith, l), omega (arith, l)) (figures-of i (year-before (method t) i j))))))
       and-then rest)
 
 -- ---- The calls
@@ -105,7 +106,7 @@ unfolding answer cell-verdict row-verdict both-lengths-right question-1 years-in
 demand-1 = record {
   both-lists = λ t f r.
       let v : Verdict = questions t (lengths-right t f r) in
-      subst (Demand-1 t f r) (then-none v ∙ sym (filled-verdict t f r v)) (decided (answered t (says-lengths t f r) none));
+      subst (Demand-1 t f r) (then-none v ∙ sym (filled-verdict (method t) f r v)) (decided (answered t (says-lengths t f r) none));
   single-cell = λ t i k. decided (answered t (says-input-lengths t) (last-asked (once (says-unseen (t .years) i k))));
   row = λ years payment-list adjustment-list i. decided
       (once (says-from-to (pos 2) (pos 32) years)

@@ -15,7 +15,8 @@ use Rattle.integers.proofs.Order.{natAbs-≤}
 use Rattle.method.specs.Limits.{fewest-years, most-years, greatest-weight, greatest-amount, greatest-outstanding, greatest-figure}
 use Rattle.method.specs.Triangle.{Triangle, n, Y, S, T, w, amounts-length, weights-length, openings-length, future-length, reserves-length}
 use Rattle.method.specs.Outstandings.{R, sums}
-use Rattle.method.specs.ProjectedYear.{Movement, movement, year-before}
+use Rattle.method.specs.ProjectedYear.{Movement}
+use Rattle.method.specs.RunOff.{movement, year-before, method}
 use Rattle.method.specs.Questions.{accepted, at, nowhere, ask, each-cell, from-to, is-zero, years-in-range, cut-in-range, input-lengths-right, lengths-right, weight-in-range, amount-right, known, outstanding-in-range, unweighted, weight-allowed, exposure-positive, figures-in-range, question-1, question-2, question-3, question-4, question-5, question-6, question-7, question-8, question-9-of-year, question-9, list-questions, input-questions, observed-questions, questions, cell-unseen}
 use Rattle.method.specs.Claim.{Projected}
 use Rattle.method.proofs.Tests.{is-true, and-true, unless-true, from-to-true, is-zero-true}
@@ -171,18 +172,18 @@ module _ (t : Triangle) where
       first-accepted (n t - 1) (λ k. ask (exposure-positive t k) 8 (at 0 k)) e k p (omega arith) in
       ltZ-yes (is-true (ask-accepted (exposure-positive t k) 8 (at 0 k) asked))
 
-  pub figures-allowed : question-9 t ≡ accepted → (i k : ℕ) → Projected (n t) i k → FiguresInRange (movement t i k)
+  pub figures-allowed : question-9 t ≡ accepted → (i k : ℕ) → Projected (n t) i k → FiguresInRange (movement (method t) i k)
   unfolding question-9 question-9-of-year
   figures-allowed e i k p =
       let j : ℕ = i + k - n t in
-      let s : year-before t i j ≡ k = omega (arith, p .row, p .after) in
+      let s : year-before (method t) i j ≡ k = omega (arith, p .row, p .after) in
       let year : question-9-of-year t i ≡ accepted = first-accepted (n t) (question-9-of-year t) e i (omega (arith, p .after, p .year)) (p .row) in
-      let m : Movement = movement t i (year-before t i j) in
-      let asked : ask (figures-in-range m) 9 (at i (suc (year-before t i j))) ≡ accepted =
-      first-accepted (i - 1) (λ j. ask (figures-in-range (movement t i (year-before t i j))) 9 (at i (suc (year-before t i j))))
+      let m : Movement = movement (method t) i (year-before (method t) i j) in
+      let asked : ask (figures-in-range m) 9 (at i (suc (year-before (method t) i j))) ≡ accepted =
+      first-accepted (i - 1) (λ j. ask (figures-in-range (movement (method t) i (year-before (method t) i j))) 9 (at i (suc (year-before (method t) i j))))
       year j (omega (arith, p .after)) (omega (arith, p .after, p .year)) in
-      subst (λ (x : ℕ). FiguresInRange (movement t i x)) s
-      (figures-in-range-true m (ask-accepted (figures-in-range m) 9 (at i (suc (year-before t i j))) asked))
+      subst (λ (x : ℕ). FiguresInRange (movement (method t) i x)) s
+      (figures-in-range-true m (ask-accepted (figures-in-range m) 9 (at i (suc (year-before (method t) i j))) asked))
 
 -- ---- All questions
 
@@ -200,7 +201,7 @@ pub record Observed (t : Triangle) : Type 0 where
 pub record Accepted (t : Triangle) : Type 0 where
   pub observed : Observed t
   pub exposure : (k : ℕ) → 1 ≤ k → k < n t → pos 0 <ℤ sums t k .D
-  pub figures : (i k : ℕ) → Projected (n t) i k → FiguresInRange (movement t i k)
+  pub figures : (i k : ℕ) → Projected (n t) i k → FiguresInRange (movement (method t) i k)
 
 -- question 3 was answered yes
 pub lists-right : (t : Triangle) (right : Bool) → input-questions t right ≡ accepted → right ≡ true

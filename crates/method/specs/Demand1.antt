@@ -11,7 +11,7 @@ use lib.Signed.{_≤ℤ_, _<ℤ_}
 use Rattle.integers.specs.Fraction.{size}
 use Rattle.method.specs.Triangle.{Triangle, n, Y, S, T, w}
 use Rattle.method.specs.Outstandings.{R, sums}
-use Rattle.method.specs.ProjectedYear.{movement}
+use Rattle.method.specs.RunOff.{movement, method}
 use Rattle.method.specs.Questions.{Place, at, Verdict, accepted, refused}
 use Rattle.method.specs.Answers.{answer, cell-verdict, row-verdict}
 
@@ -89,7 +89,7 @@ Figure-right x = size x ≤ℤ pos 10_000_000_000_000_000
 
 -- the figures that lead to year k
 abbrev pub Figures-right : Triangle → ℕ → ℕ → Type 0
-Figures-right t i k = let m = movement t i (k - 1) in Figure-right (m .payment) × Figure-right (m .adjustment) × Figure-right (m .outstanding)
+Figures-right t i k = let m = movement (method t) i (k - 1) in Figure-right (m .payment) × Figure-right (m .adjustment) × Figure-right (m .outstanding)
 
 -- questions 1 to 9 in the order in which they are asked, for what is said of the lists' lengths
 -- An opening stands at i + k = Y, and the outstandings that are observed stand after it.

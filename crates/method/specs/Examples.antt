@@ -8,8 +8,7 @@ use lib.IntN.{ℤ, pos, negℤ, _-ℤ_, _*ℤ_, natAbs}
 use lib.ListN.{length, replicate, set}
 use Rattle.integers.specs.Fraction.{Fraction, size, _over_, _≈_}
 use Rattle.method.specs.Triangle.{Triangle, weights-length, future-length, reserves-length}
-use Rattle.method.specs.Outstandings.{sums}
-use Rattle.method.specs.Unrounded.{U, A, unrounded-payment, unrounded-adjustment, payment-allowance, adjustment-allowance, paid-allowance, incurred-allowance}
+use Rattle.method.specs.RunOff.{Method, A, unrounded-movement, allowance, paid-allowance, incurred-allowance, method}
 use Rattle.method.specs.Questions.{number, place}
 use Rattle.method.specs.Answers.{Answer, answer}
 
@@ -211,13 +210,13 @@ exactly-away x f a = size (x *ℤ f .denominator -ℤ f .numerator) *ℤ a .deno
 -- The payment and the adjustment of E2 are both one half away from the unrounded method's, so no smaller allowance would do.
 abbrev pub E2-uses-its-allowances : Type 0
 E2-uses-its-allowances =
-    exactly-away (pos 1_007_813) (unrounded-payment (U (E2 .triangle) 2 1) (sums (E2 .triangle) 1)) (payment-allowance (A (E2 .triangle) 2 1) (sums (E2 .triangle) 1))
-    × exactly-away (pos 7_813) (unrounded-adjustment (U (E2 .triangle) 2 1) (sums (E2 .triangle) 1)) (adjustment-allowance (A (E2 .triangle) 2 1) (sums (E2 .triangle) 1))
+    exactly-away (pos 1_007_813) (unrounded-movement (method (E2 .triangle)) 2 1 .payment) (allowance (method (E2 .triangle)) 2 1 .payment)
+    × exactly-away (pos 7_813) (unrounded-movement (method (E2 .triangle)) 2 1 .adjustment) (allowance (method (E2 .triangle)) 2 1 .adjustment)
 
 -- The allowances of accident year 3 of E5, whose second projected year begins with an allowance of 1:
 -- 0.5 + 0.9 for the paid reserve, 0.5 + 1 for the incurred reserve, and 0.1 + 1 for the closing.
 abbrev pub E5-allowances : Type 0
 E5-allowances =
-    (paid-allowance (E5 .triangle) 3 ≈ pos 14 over pos 10)
-    × (incurred-allowance (E5 .triangle) 3 ≈ pos 15 over pos 10)
-    × (A (E5 .triangle) 3 3 ≈ pos 11 over pos 10)
+    (paid-allowance (method (E5 .triangle)) 3 ≈ pos 14 over pos 10)
+    × (incurred-allowance (method (E5 .triangle)) 3 ≈ pos 15 over pos 10)
+    × (A (method (E5 .triangle)) 3 3 ≈ pos 11 over pos 10)

@@ -4,7 +4,7 @@ pub mod Counting
 pub mod Triangle
 pub mod Outstandings
 pub mod ProjectedYear
-pub mod Unrounded
+pub mod RunOff
 pub mod Questions
 pub mod Answers
 pub mod Demand1

@@ -10,7 +10,8 @@ use Rattle.method.specs.Limits.{fewest-years, most-years, greatest-weigh
 use Rattle.method.specs.Counting.{up-to}
 use Rattle.method.specs.Triangle.{Triangle, amounts-length, weights-length, openings-length, future-length, reserves-length, n, Y, S, T, w, missing}
 use Rattle.method.specs.Outstandings.{R, sums}
-use Rattle.method.specs.ProjectedYear.{Movement, movement, year-before}
+use Rattle.method.specs.ProjectedYear.{Movement}
+use Rattle.method.specs.RunOff.{movement, year-before, method}
 
 -- ---- Verdicts
 
@@ -156,7 +157,7 @@ module _ (t : Triangle) where
 
   -- the projected years of accident year i
   unfoldable pub question-9-of-year : ℕ → Verdict
-  question-9-of-year i = first-to (i - 1) (λ j. ask (figures-in-range (movement t i (year-before t i j))) 9 (at i (suc (year-before t i j))))
+  question-9-of-year i = first-to (i - 1) (λ j. ask (figures-in-range (movement (method t) i (year-before (method t) i j))) 9 (at i (suc (year-before (method t) i j))))
 
   unfoldable pub question-9 : Verdict
   question-9 = first-to (n t) question-9-of-year

@@ -7,7 +7,8 @@ use lib.IntN.{ℤ, pos, _*ℤ_, natAbs}
 use lib.ListN.{getD}
 use Rattle.method.specs.Limits.{one-unit}
 use Rattle.method.specs.Triangle.{Triangle, n, entry}
-use Rattle.method.specs.ProjectedYear.{Movement, movement, year-before}
+use Rattle.method.specs.ProjectedYear.{Movement}
+use Rattle.method.specs.RunOff.{movement, year-before, method}
 use Rattle.method.specs.Questions.{Place, Verdict, accepted, refused, first-to, figures-in-range}
 use Rattle.method.specs.Answers.{cell-verdict, cell-figures, single-cell}
 use Rattle.method.proofs.FirstRefusal.{ask-accepted, first-accepted}
@@ -68,14 +69,14 @@ projected-years n i k h l m = omega arith
 
 -- its movement is the triangle's
 pub movement-in-triangle : {t : Triangle} {ratios : List Sums} {outstandings : List ℤ} → DevelopmentOf t ratios outstandings → (i k : ℕ)
-    → CellAccepted (n t) ratios outstandings i k → cell-movement (n t) ratios outstandings i k ≡ movement t i (k - 1)
+    → CellAccepted (n t) ratios outstandings i k → cell-movement (n t) ratios outstandings i k ≡ movement (method t) i (k - 1)
 movement-in-triangle {t} {ratios} {outstandings} d i k a =
     let j : ℕ = k - (n t + 1 - i) - 1 in
     let e : n t + 1 - i - 1 ≡ n t - i = omega (arith, a .last) in
     let f : k - (n t + 1 - i) ≡ suc j = omega (arith, a .unseen) in
-    let g : year-before t i (suc j) ≡ k - 1 = omega (arith, a .unseen, a .last) in
+    let g : year-before (method t) i (suc j) ≡ k - 1 = omega (arith, a .unseen, a .last) in
     ap₂ (λ (x y : ℕ). projected-year ratios x (observed-of (n t) ratios outstandings i) y) e f
-    ∙ year-is d i (omega (arith, a .first)) (a .last) j (projected-years (n t) i k (a .unseen) (a .last) (a .last-year)) ∙ ap (movement t i) g
+    ∙ year-is d i (omega (arith, a .first)) (a .last) j (projected-years (n t) i k (a .unseen) (a .last) (a .last-year)) ∙ ap (movement (method t) i) g
 
 -- ---- The cell of a call
 
@@ -97,6 +98,6 @@ module _ (t : Triangle) (i k : ℤ) {v : Verdict} (e : v ≡ cell-verdict t i k)
   unfolding single-cell cell-figures
   refused-whole d = ap refused-cell d ∙ ap (cell-figures t i k) (sym d ∙ e)
 
-  pub accepted-whole : v ≡ accepted → {m : Movement} → m ≡ movement t (natAbs i) (natAbs k - 1) → accepted-cell m ≡ single-cell t i k
+  pub accepted-whole : v ≡ accepted → {m : Movement} → m ≡ movement (method t) (natAbs i) (natAbs k - 1) → accepted-cell m ≡ single-cell t i k
   unfolding single-cell cell-figures
   accepted-whole a f = ap accepted-cell f ∙ ap (cell-figures t i k) (sym a ∙ e)
