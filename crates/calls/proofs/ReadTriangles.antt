@@ -5,7 +5,7 @@ use Rattle.method.specs.Triangle.{Triangle, n, future-length, reserves-length}
 use Rattle.method.specs.Questions.{Verdict, accepted, question-1, input-questions, question-8, observed-questions, question-9, questions, lengths-right}
 use Rattle.method.proofs.FirstRefusal.{then-accepted, went-on}
 use Rattle.method.proofs.QuestionFacts as facts
-use Rattle.method.proofs.QuestionFacts.{Observed, observed-triangle, exposures-positive, lengths-right-true}
+use Rattle.method.proofs.QuestionFacts.{Observed, observed-triangle, exposures-positive, says-lengths}
 use Rattle.questions.specs.declared.inputs.AnswerLists.{AnswerLists}
 use Rattle.questions.specs.declared.inputs.AnswerLists.the-variants.{OfLengths}
 use Rattle.questions.specs.Lent.{lists-right}
@@ -48,5 +48,5 @@ module _ {t : Triangle} {answers : AnswerLists} {r : Reading} (e : ReadingOf t a
 pub lists-whole : {t : Triangle} {f r : ℕ} {x : Reading} → ReadingOf t (OfLengths f r) x → verdict-of (x .verdict) ≡ accepted
     → (f ≡ future-length (n t)) × (r ≡ reserves-length (n t))
 lists-whole {t} {f} {r} e a =
-    let l = lengths-right-true t f r (facts.lists-right t (lengths-right t f r) (both e a .0)) in
+    let l = says-lengths t f r .sound (facts.lists-right t (lengths-right t f r) (both e a .0)) in
     (l .future, l .reserves)

@@ -1,59 +1,15 @@
 -- Questions asked one after another, each by a test at each of its places: the verdict is the one that what they want decides.
-use mathlib.Core.Path.{_≡_, refl, sym, ap, ap₂, _∙_, subst}
+use mathlib.Core.Path.{_≡_, refl, sym, ap₂, _∙_, subst}
 use mathlib.Core.Logic.{_⊎_, inl, inr}
-use mathlib.Core.Bool.{Bool, true, false, not, _&&_, _||_}
+use mathlib.Core.Bool.{Bool, true, false, not, _||_}
 use mathlib.Core.List.{List, [], _∷_}
 use Prim.Native.Nat.{ℕ, _+_, _-_, _≤_, _<_}
 use native.Mathlib.Decide.{decLt}
 use native.Mathlib.Omega.{arith}
-use lib.Dec.{T as IsTrue, leb, eqb}
-use borrow.Author.Tests.{leb-true, le-leb, eqb-true, eq-eqb}
-use lib.IntN.{ℤ, pos}
-use lib.Signed.{leZ, ltZ, _≤ℤ_, _<ℤ_, leZ-yes, ltZ-yes}
-use Rattle.method.specs.Questions.{Place, Verdict, accepted, refused, at, nowhere, _then_, ask, first-to, each-in-row, each-cell, from-to, is-zero}
-use Rattle.method.specs.Demand1.{Question, Passed, Before, FirstNo, AllPassed, FirstNoOf, DecidedBy, From-to, question-once, Cell}
-use Rattle.method.proofs.Tests.{is-true, true-is, and-true, is-zero-true}
+use Rattle.method.specs.Questions.{Place, Verdict, accepted, refused, at, nowhere, _then_, ask, first-to, each-in-row, each-cell}
+use Rattle.method.specs.Demand1.{Question, Passed, Before, FirstNo, AllPassed, FirstNoOf, DecidedBy, question-once, Cell}
+use Rattle.method.proofs.Tests.{Says, differ}
 use Rattle.method.proofs.FirstRefusal.{not-both, ask-accepted, ask-refused, then-accepted, then-refused, first-accepted, FirstOf, first-refused}
-
--- ---- A test, and the statement that it decides
-
-pub record Says (b : Bool) (P : Type 0) : Type 0 where
-  pub sound : b ≡ true → P
-  pub complete : P → b ≡ true
-
-differ : {b : Bool} → b ≡ true → b ≡ false → ⊥
-differ p q = subst IsTrue (sym p ∙ q) tt
-
-pub says-≤ : (a b : ℤ) → Says (leZ a b) (a ≤ℤ b)
-says-≤ a b = record { sound = λ e. leZ-yes (is-true e); complete = λ h. true-is (h .le) }
-
-pub says-< : (a b : ℤ) → Says (ltZ a b) (a <ℤ b)
-says-< a b = record { sound = λ e. ltZ-yes (is-true e); complete = λ h. true-is (h .lt) }
-
-pub says-leb : (a b : ℕ) → Says (leb a b) (a ≤ b)
-says-leb a b = record { sound = leb-true a b; complete = le-leb a b }
-
-pub says-eqb : (a b : ℕ) → Says (eqb a b) (a ≡ b)
-says-eqb a b = record { sound = eqb-true a b; complete = eq-eqb a b }
-
-pub says-zero : (x : ℤ) → Says (is-zero x) (x ≡ pos 0)
-says-zero x = record { sound = is-zero-true x; complete = λ h. ap (λ (y : ℤ). is-zero y) h }
-
-pub says-map : {b : Bool} {P Q : Type 0} → (P → Q) → (Q → P) → Says b P → Says b Q
-says-map f g s = record { sound = λ e. f (s .sound e); complete = λ x. s .complete (g x) }
-
-pub says-and : {a b : Bool} {P Q : Type 0} → Says a P → Says b Q → Says (a && b) (P × Q)
-says-and {a} {b} s r = record {
-  sound = λ e. (s .sound (and-true a b e .0), r .sound (and-true a b e .1));
-  complete = λ h. ap₂ _&&_ (s .complete (h .0)) (r .complete (h .1));
-}
-
-pub says-from-to : (low high x : ℤ) → Says (from-to low high x) (From-to low high x)
-says-from-to low high x = says-and (says-≤ low x) (says-≤ x high)
-
-pub says-unless : {a b : Bool} {P Q : Type 0} → Says a P → Says b Q → Says (not a || b) (P → Q)
-says-unless {a = true} {b} s r = record { sound = λ e h. r .sound e; complete = λ h. r .complete (h (s .sound refl)) }
-says-unless {a = false} {b} s r = record { sound = λ e h. absurd (differ (s .complete h) refl); complete = λ h. refl }
 
 -- ---- A question, asked by a test at each place
 

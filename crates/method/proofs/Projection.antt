@@ -1,11 +1,11 @@
 -- The rule of document 01: that a year leaves no outstanding negative, that it keeps allowances, and when the last year leaves nothing.
-use mathlib.Core.Path.{_≡_, refl, sym, ap, _∙_, subst}
+use mathlib.Core.Path.{_≡_, refl, ap, _∙_, subst}
 use Prim.Native.Nat.{ℕ, suc, _-_, _≤_, _<_}
 use native.Mathlib.Omega.{arith}
 use lib.IntN.{ℤ, pos, _+ℤ_, _-ℤ_, _*ℤ_, +ℤ-idl, *ℤ-zero}
 use lib.Signed.{_≤ℤ_, _<ℤ_}
 use Rattle.integers.specs.Fraction.{Fraction, size, _over_, _⊕_, _⊖_, _⊗_, _≈_, Within}
-use Rattle.integers.proofs.RingSolver.{con, _:+_, _:-_, _:*_, _:=_, ring}
+use Rattle.integers.proofs.RingSolver.{_:+_, _:-_, _:*_, _:=_, ring}
 use Rattle.integers.proofs.Order.{*ℤ-positive, size-of-nonneg}
 use Rattle.integers.proofs.Rounding.{Nearest, half-up-nearest}
 use Rattle.integers.proofs.Nearness.{nearest-within, balance-within, balance-nonneg, balance-zero, share-within}
@@ -15,8 +15,7 @@ use Rattle.method.specs.Triangle.{Triangle, n, w}
 use Rattle.method.specs.Outstandings.{Sums, R, sums}
 use Rattle.method.specs.ProjectedYear.{share, next-year, unrounded-year, allowed-year}
 use Rattle.method.specs.RunOff.{O, movement, method}
-use Rattle.method.specs.Claim.{Projected}
-use Rattle.method.proofs.QuestionFacts.{Observed, Accepted}
+use Rattle.method.proofs.QuestionFacts.{Accepted}
 use Rattle.method.proofs.SumBounds.{factor-is, sums-in-range}
 use Rattle.method.proofs.KeptAllowances.{KeptYear, Keeps}
 

@@ -1,64 +1,34 @@
 -- Demand 1, proved for every call. Assumes nothing.
 use mathlib.Core.Path.{_≡_, refl, sym, _∙_, subst}
-use mathlib.Core.Bool.{Bool, _&&_}
-use mathlib.Core.List.{List, _∷_, _++_}
+use mathlib.Core.Bool.{Bool}
+use mathlib.Core.List.{List, _++_}
 use Prim.Native.Nat.{ℕ, suc, _+_, _-_}
 use native.Mathlib.Omega.{arith}
-use lib.IntN.{ℤ, pos, _+ℤ_, _-ℤ_, natAbs}
-use lib.ListN.{length}
+use lib.IntN.{ℤ, pos, _+ℤ_, _-ℤ_}
 use lib.Signed.{_≤ℤ_, _<ℤ_}
-use Rattle.integers.specs.Fraction.{size}
-use Rattle.method.specs.Limits.{greatest-figure}
-use Rattle.method.specs.Triangle.{Triangle, n, Y, S, T, w, amounts-length, weights-length, openings-length, future-length, reserves-length}
+use Rattle.method.specs.Triangle.{Triangle, n, Y, S, T, w}
 use Rattle.method.specs.Outstandings.{R, sums}
-use Rattle.method.specs.ProjectedYear.{Movement}
 use Rattle.method.specs.RunOff.{movement, year-before, method}
-use Rattle.method.specs.Questions.{Verdict, accepted, _then_, each-cell, years-in-range, cut-in-range, input-lengths-right, lengths-right, weight-in-range, amount-right, known, outstanding-in-range, unweighted, weight-allowed, exposure-positive, figures-in-range, question-1, question-2, question-3, question-4, question-5, question-6, question-7, question-8, question-9-of-year, question-9, list-questions, input-questions, observed-questions, questions, cell-unseen, accident-year-in-range, question-10}
+use Rattle.method.specs.Questions.{Verdict, _then_, each-cell, years-in-range, cut-in-range, lengths-right, weight-in-range, amount-right, known, outstanding-in-range, unweighted, weight-allowed, exposure-positive, figures-in-range, question-1, question-2, question-3, question-4, question-5, question-6, question-7, question-8, question-9-of-year, question-9, list-questions, input-questions, observed-questions, questions, cell-unseen, accident-year-in-range, question-10}
 use Rattle.method.specs.Answers.{answer, both-lengths-right, cell-verdict, row-verdict}
-use Rattle.method.specs.Demand1.{Question, From-to, InputLengthsRight, LengthsRight, Amount-right, Figure-right, Figures-right, triangle-questions, Demand-1, Demand-1-of-cell, Demand-1-of-row, Demand-1-of-every-call}
+use Rattle.method.specs.Demand1.{Question, From-to, Amount-right, Figures-right, triangle-questions, Demand-1, Demand-1-of-every-call}
 use Rattle.method.proofs.WholeAnswers.{filled-verdict}
 use Rattle.method.proofs.FirstRefusal.{then-assoc, then-none}
-use Rattle.method.proofs.AskedQuestions.{Says, says-≤, says-<, says-leb, says-eqb, says-zero, says-and, says-from-to, says-unless, says-map, told, told-where, once, row, in-own-row, rows, cells, AnswersAll, none, last-asked, _and-then_, decided}
+use Rattle.method.proofs.QuestionFacts.{says-input-lengths, says-lengths, says-figures}
+use Rattle.method.proofs.Tests.{Says, says-≤, says-<, says-leb, says-eqb, says-zero, says-and, says-from-to, says-unless, says-map}
+use Rattle.method.proofs.AskedQuestions.{told, told-where, once, row, in-own-row, rows, cells, AnswersAll, none, last-asked, _and-then_, decided}
 
 -- ---- What the tests of a triangle want
 
-says-figures : (m : Movement) → Says (figures-in-range m) (Figure-right (m .payment) × Figure-right (m .adjustment) × Figure-right (m .outstanding))
-unfolding figures-in-range
-says-figures m =
-    says-map (λ h. (h .0 .0, h .0 .1, h .1)) (λ h. ((h .0, h .1), h .2))
-    (says-and (says-and (says-≤ (size (m .payment)) greatest-figure) (says-≤ (size (m .adjustment)) greatest-figure)) (says-≤ (size (m .outstanding)) greatest-figure))
-
 module _ (t : Triangle) where
-  says-input-lengths : Says (input-lengths-right t) (InputLengthsRight t)
-  unfolding input-lengths-right
-  says-input-lengths =
-      says-map
-      (λ h. record { payments = h .0 .0 .0; adjustments = h .0 .0 .1; weights = h .0 .1; openings = h .1 })
-      (λ l. (((l .payments, l .adjustments), l .weights), l .openings))
-      (says-and (says-and (says-and
-      (says-eqb (length (t .payments)) (amounts-length (n t)))
-      (says-eqb (length (t .adjustments)) (amounts-length (n t))))
-      (says-eqb (length (t .weights)) (weights-length (n t))))
-      (says-eqb (length (t .openings)) (openings-length (Y t))))
-
-  says-lengths : (f r : ℕ) → Says (lengths-right t f r) (LengthsRight t f r)
-  unfolding lengths-right
-  says-lengths f r =
-      says-map
-      (λ h. record { inputs = h .0 .0; future = h .0 .1; reserves = h .1 })
-      (λ l. ((l .inputs, l .future), l .reserves))
-      (says-and (says-and says-input-lengths (says-eqb f (future-length (n t)))) (says-eqb r (reserves-length (n t))))
-
   says-amount : (amount : ℕ → ℕ → ℤ) (i k : ℕ) → Says (amount-right t amount i k) (Amount-right t amount i k)
   unfolding amount-right
   says-amount amount i k = says-and (says-from-to _ _ (amount i k)) (says-unless (says-leb (i + k) (Y t)) (says-zero (amount i k)))
 
-  figures-of : (i k : ℕ) → let m = movement (method t) i (suc k - 1) in
-      Says (figures-in-range (movement (method t) i k)) (Figure-right (m .payment) × Figure-right (m .adjustment) × Figure-right (m .outstanding))
+  figures-of : (i k : ℕ) → Says (figures-in-range (movement (method t) i k)) (Figures-right t i (suc k))
   figures-of i k =
       let e : k ≡ suc k - 1 = omega arith in
-      subst (λ (x : ℕ). let m = movement (method t) i x in Says (figures-in-range (movement (method t) i k)) (Figure-right (m .payment) × Figure-right (m .adjustment) × Figure-right (m .outstanding)))
-      e (says-figures (movement (method t) i k))
+      subst (λ (x : ℕ). Says (figures-in-range (movement (method t) i x)) (Figures-right t i (suc k))) (sym e) (says-figures (movement (method t) i (suc k - 1)))
 
   -- ---- Questions 1 to 9, and what is asked after them
 

@@ -3,8 +3,8 @@ use mathlib.Core.Path.{_≡_, refl, subst}
 use mathlib.Core.Bool.{Bool, true, not, _&&_, _||_}
 use Prim.Native.Nat.{ℕ, suc, _+_, _-_, _≤_, _<_}
 use native.Mathlib.Omega.{arith}
-use lib.Dec.{leb, eqb, leb→le}
-use borrow.Author.Tests.{eqb-true, le-leb}
+use lib.Dec.{leb, leb→le}
+use borrow.Author.Tests.{le-leb}
 use lib.IntN.{ℤ, pos, negsuc, negℤ, _+ℤ_, _-ℤ_, natAbs}
 use lib.ListN.{length}
 use lib.Signed.{leZ, ltZ, _≤ℤ_, _<ℤ_, leZ-yes, ltZ-yes}
@@ -18,8 +18,9 @@ use Rattle.method.specs.Outstandings.{R, sums}
 use Rattle.method.specs.ProjectedYear.{Movement}
 use Rattle.method.specs.RunOff.{movement, year-before, method}
 use Rattle.method.specs.Questions.{accepted, at, nowhere, ask, each-cell, from-to, is-zero, years-in-range, cut-in-range, input-lengths-right, lengths-right, weight-in-range, amount-right, known, outstanding-in-range, unweighted, weight-allowed, exposure-positive, figures-in-range, question-1, question-2, question-3, question-4, question-5, question-6, question-7, question-8, question-9-of-year, question-9, list-questions, input-questions, observed-questions, questions, cell-unseen}
+use Rattle.method.specs.Demand1.{InputLengthsRight, LengthsRight, Figure-right}
 use Rattle.method.specs.Claim.{Projected}
-use Rattle.method.proofs.Tests.{is-true, and-true, unless-true, from-to-true, is-zero-true}
+use Rattle.method.proofs.Tests.{is-true, and-true, unless-true, from-to-true, is-zero-true, Says, says-≤, says-eqb, says-map, says-and}
 use Rattle.method.proofs.FirstRefusal.{ask-accepted, then-accepted, first-accepted, each-cell-passed}
 
 -- ---- What questions 1 to 3 leave
@@ -64,40 +65,25 @@ pub lengths-accepted : (right : Bool) → question-3 right ≡ accepted → righ
 unfolding question-3
 lengths-accepted right e = ask-accepted right 3 nowhere e
 
-pub record InputLengths (t : Triangle) : Type 0 where
-  pub payments : length (t .payments) ≡ amounts-length (n t)
-  pub adjustments : length (t .adjustments) ≡ amounts-length (n t)
-  pub weights : length (t .weights) ≡ weights-length (n t)
-  pub openings : length (t .openings) ≡ openings-length (Y t)
-
-pub input-lengths-right-true : (t : Triangle) → input-lengths-right t ≡ true → InputLengths t
+pub says-input-lengths : (t : Triangle) → Says (input-lengths-right t) (InputLengthsRight t)
 unfolding input-lengths-right
-input-lengths-right-true t e =
-    let a = and-true _ (eqb (length (t .openings)) (openings-length (Y t))) e in
-    let b = and-true _ (eqb (length (t .weights)) (weights-length (n t))) (a .0) in
-    let c = and-true (eqb (length (t .payments)) (amounts-length (n t))) (eqb (length (t .adjustments)) (amounts-length (n t))) (b .0) in
-    record {
-      payments = eqb-true _ _ (c .0);
-      adjustments = eqb-true _ _ (c .1);
-      weights = eqb-true _ _ (b .1);
-      openings = eqb-true _ _ (a .1);
-    }
+says-input-lengths t =
+    says-map
+    (λ h. record { payments = h .0 .0 .0; adjustments = h .0 .0 .1; weights = h .0 .1; openings = h .1 })
+    (λ l. (((l .payments, l .adjustments), l .weights), l .openings))
+    (says-and (says-and (says-and
+    (says-eqb (length (t .payments)) (amounts-length (n t)))
+    (says-eqb (length (t .adjustments)) (amounts-length (n t))))
+    (says-eqb (length (t .weights)) (weights-length (n t))))
+    (says-eqb (length (t .openings)) (openings-length (Y t))))
 
-pub record AllLengths (t : Triangle) (f r : ℕ) : Type 0 where
-  pub inputs : InputLengths t
-  pub future : f ≡ future-length (n t)
-  pub reserves : r ≡ reserves-length (n t)
-
-pub lengths-right-true : (t : Triangle) (f r : ℕ) → lengths-right t f r ≡ true → AllLengths t f r
+pub says-lengths : (t : Triangle) (f r : ℕ) → Says (lengths-right t f r) (LengthsRight t f r)
 unfolding lengths-right
-lengths-right-true t f r e =
-    let a = and-true (input-lengths-right t && eqb f (future-length (n t))) (eqb r (reserves-length (n t))) e in
-    let b = and-true (input-lengths-right t) (eqb f (future-length (n t))) (a .0) in
-    record {
-      inputs = input-lengths-right-true t (b .0);
-      future = eqb-true f (future-length (n t)) (b .1);
-      reserves = eqb-true r (reserves-length (n t)) (a .1);
-    }
+says-lengths t f r =
+    says-map
+    (λ h. record { inputs = h .0 .0; future = h .0 .1; reserves = h .1 })
+    (λ l. ((l .inputs, l .future), l .reserves))
+    (says-and (says-and (says-input-lengths t) (says-eqb f (future-length (n t)))) (says-eqb r (reserves-length (n t))))
 
 -- ---- What questions 4 to 9 leave, cell by cell
 
@@ -120,16 +106,14 @@ pub record FiguresInRange (m : Movement) : Type 0 where
   pub adjustment : size (m .adjustment) ≤ℤ greatest-figure
   pub outstanding : size (m .outstanding) ≤ℤ greatest-figure
 
-pub figures-in-range-true : (m : Movement) → figures-in-range m ≡ true → FiguresInRange m
+pub says-figures : (m : Movement) → Says (figures-in-range m) (Figure-right (m .payment) × Figure-right (m .adjustment) × Figure-right (m .outstanding))
 unfolding figures-in-range
-figures-in-range-true m e =
-    let a = and-true (leZ (size (m .payment)) greatest-figure && leZ (size (m .adjustment)) greatest-figure) (leZ (size (m .outstanding)) greatest-figure) e in
-    let b = and-true (leZ (size (m .payment)) greatest-figure) (leZ (size (m .adjustment)) greatest-figure) (a .0) in
-    record {
-      payment = leZ-yes (is-true (b .0));
-      adjustment = leZ-yes (is-true (b .1));
-      outstanding = leZ-yes (is-true (a .1));
-    }
+says-figures m =
+    says-map (λ h. (h .0 .0, h .0 .1, h .1)) (λ h. ((h .0, h .1), h .2))
+    (says-and (says-and (says-≤ (size (m .payment)) greatest-figure) (says-≤ (size (m .adjustment)) greatest-figure)) (says-≤ (size (m .outstanding)) greatest-figure))
+
+pub figures-in-range-true : (m : Movement) → figures-in-range m ≡ true → FiguresInRange m
+figures-in-range-true m e = let (p, a, o) = says-figures m .sound e in record { payment = p; adjustment = a; outstanding = o }
 
 module _ (t : Triangle) where
   pub weights-in-range : question-4 t ≡ accepted → (i k : ℕ) → 1 ≤ i → 1 ≤ k → i + k ≤ n t
@@ -191,7 +175,7 @@ module _ (t : Triangle) where
 pub record Observed (t : Triangle) : Type 0 where
   pub years : YearsInRange (t .years)
   pub cut : CutInRange (t .cut) (n t)
-  pub lengths : InputLengths t
+  pub lengths : InputLengthsRight t
   pub weight : (i k : ℕ) → 1 ≤ i → 1 ≤ k → i + k ≤ n t → (pos 0 ≤ℤ w t i k) × (w t i k ≤ℤ greatest-weight)
   pub payment : (i k : ℕ) → 1 ≤ i → 1 ≤ k → i + k ≤ n t + 1 → AmountRight (Y t) i k (S t i k)
   pub adjustment : (i k : ℕ) → 1 ≤ i → 1 ≤ k → i + k ≤ n t + 1 → AmountRight (Y t) i k (T t i k)
@@ -212,7 +196,7 @@ lists-right t right e =
     lengths-accepted right (then-accepted _ _ e₃ .0)
 
 -- where the lists have their lengths if the answer to question 3 says so
-pub observed-triangle : (t : Triangle) (right : Bool) → (right ≡ true → InputLengths t) → input-questions t right ≡ accepted → Observed t
+pub observed-triangle : (t : Triangle) (right : Bool) → (right ≡ true → InputLengthsRight t) → input-questions t right ≡ accepted → Observed t
 unfolding input-questions list-questions
 observed-triangle t right lengths e =
     let (q₁, e₂) = then-accepted _ _ e in
@@ -233,7 +217,7 @@ observed-triangle t right lengths e =
       unweighted = weights-allowed t q₇;
     }
 
-pub accepted-triangle : (t : Triangle) (right : Bool) → (right ≡ true → InputLengths t) → questions t right ≡ accepted → Accepted t
+pub accepted-triangle : (t : Triangle) (right : Bool) → (right ≡ true → InputLengthsRight t) → questions t right ≡ accepted → Accepted t
 unfolding questions observed-questions
 accepted-triangle t right lengths e =
     let (before, q₉) = then-accepted _ _ e in

@@ -5,11 +5,11 @@ use native.Mathlib.Nat.{add-zero}
 use native.Mathlib.Omega.{arith}
 use borrow.Author.Tests.{le-leb, lt-leb}
 use lib.IntN.{ℤ, pos, _+ℤ_, _-ℤ_, _*ℤ_}
-use Rattle.integers.specs.Fraction.{Fraction, _over_}
+use Rattle.integers.specs.Fraction.{_over_}
 use Rattle.integers.proofs.RingSolver.{con, _:+_, _:-_, _:=_, ring}
 use Rattle.method.specs.Limits.{one-unit}
 use Rattle.method.specs.Counting.{up-to, sum-to}
-use Rattle.method.specs.ProjectedYear.{Year, Movement}
+use Rattle.method.specs.ProjectedYear.{Year}
 use Rattle.method.specs.RunOff.{Method, account, O, U, A, movement, unrounded-movement, allowance, last-observed, first-outstanding, year-before, paid-reserve, incurred-reserve, closing}
 
 -- ---- An account of a row

@@ -1,5 +1,5 @@
 -- What document 01 makes of one projected year, whatever the rule of the year: an account of each row, the future list and the reserves.
-use mathlib.Core.Bool.{Bool, true, false}
+use mathlib.Core.Bool.{true, false}
 use mathlib.Core.List.{List, [], _∷_}
 use Prim.Native.Nat.{ℕ, zero, suc, _+_, _-_}
 use lib.Dec.{leb}

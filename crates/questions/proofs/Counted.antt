@@ -7,15 +7,16 @@ use lib.IntN.{ℤ, natAbs}
 use Rattle.method.specs.Triangle.{Triangle, n, reserves-length}
 use Rattle.method.specs.Questions.{input-lengths-right, lengths-right}
 use Rattle.method.proofs.Tests.{and-true}
-use Rattle.method.proofs.QuestionFacts.{YearsInRange, CutInRange, InputLengths, input-lengths-right-true, lengths-right-true}
+use Rattle.method.specs.Demand1.{InputLengthsRight}
+use Rattle.method.proofs.QuestionFacts.{YearsInRange, CutInRange, says-input-lengths, says-lengths}
 use Rattle.questions.specs.declared.inputs.AnswerLists.{AnswerLists}
 use Rattle.questions.specs.declared.inputs.AnswerLists.the-variants.{NotLent, OfLengths}
 use Rattle.questions.specs.Lent.{lent, counted, lists-right, ListsLent}
 
 -- where question 3 was answered yes
-pub lists-have-lengths : (t : Triangle) (answers : AnswerLists) → lists-right t answers ≡ true → InputLengths t
-lists-have-lengths t NotLent e = input-lengths-right-true t e
-lists-have-lengths t (OfLengths future reserves) e = lengths-right-true t future reserves e .inputs
+pub lists-have-lengths : (t : Triangle) (answers : AnswerLists) → lists-right t answers ≡ true → InputLengthsRight t
+lists-have-lengths t NotLent e = says-input-lengths t .sound e
+lists-have-lengths t (OfLengths future reserves) e = says-lengths t future reserves .sound e .inputs
 
 pub inputs-right : (t : Triangle) (answers : AnswerLists) → lists-right t answers ≡ true → input-lengths-right t ≡ true
 unfolding lengths-right
