@@ -1,25 +1,26 @@
--- The call that fills both lists: accepted and refused, its whole answer is the definition's, demand 1 holds of its verdict, and demand 3 of what it leaves.
-use mathlib.Core.Path.{_≡_, refl, sym, ap, _∙_, subst}
+-- The call that fills both lists: accepted and refused, its whole answer is the definition's.
+use mathlib.Core.Path.{_≡_, refl, sym, ap, _∙_}
 use mathlib.Core.List.{List}
 use Prim.Native.Nat.{ℕ}
 use lib.IntN.{ℤ, pos}
 use lib.ListN.{length, replicate}
 use Rattle.method.specs.Triangle.{Triangle, n}
-use Rattle.method.specs.Questions.{Place, Verdict, accepted, refused, questions, lengths-right}
+use Rattle.method.specs.Verdicts.{Place, Verdict, accepted, refused}
+use Rattle.method.specs.Questions.{questions, lengths-right}
 use Rattle.method.specs.RunOff.{method}
-use Rattle.method.specs.Answers.{Answer, answer}
+use Rattle.method.specs.Answers.{answer}
 use Rattle.method.specs.Demand1.{Demand-1}
-use Rattle.method.specs.Claim.{Demand-3}
+use Rattle.method.specs.Demand2.{Demand-2}
+use Rattle.method.specs.Demand3.{Demand-3}
 use Rattle.method.proofs.FirstRefusal.{not-both, stopped}
 use Rattle.method.proofs.WholeAnswers.{filled-verdict, accepted-answer, refused-answer}
-use Rattle.method.proofs.ProofOfDemand1.{demand-1}
-use Rattle.method.proofs.ProofOfDemand3.{demand-3}
+use Rattle.method.proofs.Demands.{demand-1-of-answer, demand-2-of-answer, demand-3-of-answer}
 use Rattle.questions.specs.declared.inputs.AnswerLists.the-variants.{OfLengths}
 use Rattle.verdicts.specs.Verdicts.{verdict-of}
 use Rattle.triangle.specs.declared.reading.Reading.{Reading}
 use Rattle.triangle.specs.Reading.{ReadingOf}
-use Rattle.calls.specs.Rows.{RowsProjected}
-use Rattle.calls.specs.Answers.{answered, Filled}
+use Rattle.calls.specs.ProjectedRows.{RowsProjected}
+use Rattle.calls.specs.Answers.{answer-of, Filled}
 use Rattle.calls.proofs.OfTriangle.{question-9-is, future-is, reserves-is}
 use Rattle.calls.proofs.ReadTriangles.{was-read, with-question-9}
 
@@ -52,26 +53,25 @@ module _ {t : Triangle} {future-before reserves-before : List ℤ} where
 
   module _ {v : Verdict} {future reserves : List ℤ} (f : Filled t future-before reserves-before v future reserves) where
     pub refused-whole : {question : ℕ} {p : Place} → v ≡ refused question p
-        → answered v (replicate (length future-before) (pos 0)) (replicate (length reserves-before) (pos 0)) ≡ answer t (length future-before) (length reserves-before)
+        → answer-of v (replicate (length future-before) (pos 0)) (replicate (length reserves-before) (pos 0)) ≡ answer t (length future-before) (length reserves-before)
     refused-whole {question} {p} d =
-        ap (λ (x : Verdict). answered x (replicate (length future-before) (pos 0)) (replicate (length reserves-before) (pos 0))) d
+        ap (λ (x : Verdict). answer-of x (replicate (length future-before) (pos 0)) (replicate (length reserves-before) (pos 0))) d
         ∙ sym (refused-answer t (length future-before) (length reserves-before) question p (sym (f .verdict-is) ∙ d))
 
-    verdict-said : answer t (length future-before) (length reserves-before) .verdict ≡ v
-    unfolding answer
-    verdict-said = filled-verdict (method t) _ _ (questions t (lengths-right t (length future-before) (length reserves-before))) ∙ sym (f .verdict-is)
-
     said : v ≡ accepted → answer t (length future-before) (length reserves-before) .verdict ≡ accepted
-    said a = verdict-said ∙ a
+    unfolding answer
+    said a = filled-verdict (method t) _ _ (questions t (lengths-right t (length future-before) (length reserves-before))) ∙ sym (f .verdict-is) ∙ a
 
-    pub accepted-whole : v ≡ accepted → answered v future reserves ≡ answer t (length future-before) (length reserves-before)
+    pub accepted-whole : v ≡ accepted → answer-of v future reserves ≡ answer t (length future-before) (length reserves-before)
     accepted-whole a = same a (f .future-is a) (f .reserves-are a) ∙ sym (accepted-answer t (length future-before) (length reserves-before) (said a))
       where
-        same : {v w : Verdict} {a b c d : List ℤ} → v ≡ w → a ≡ c → b ≡ d → answered v a b ≡ answered w c d
+        same : {v w : Verdict} {a b c d : List ℤ} → v ≡ w → a ≡ c → b ≡ d → answer-of v a b ≡ answer-of w c d
         same p q r = cc
 
-    pub demand-1-holds : Demand-1 t (length future-before) (length reserves-before) v
-    demand-1-holds = subst (Demand-1 t (length future-before) (length reserves-before)) verdict-said (demand-1 .both-lists t (length future-before) (length reserves-before))
+-- ---- The demands
 
-    pub demand-3-holds : v ≡ accepted → Demand-3 (method t) future reserves
-    demand-3-holds a = subst (λ (x : Answer). Demand-3 (method t) (x .future) (x .reserves)) (sym (accepted-whole a)) (demand-3 t (length future-before) (length reserves-before) (said a))
+pub with-demands : (t : Triangle) (f r : ℕ) {v : Verdict} {future reserves : List ℤ} → answer-of v future reserves ≡ answer t f r
+    → (answer-of v future reserves ≡ answer t f r)
+    × (Demand-1 t f r v future reserves
+    × ((v ≡ accepted → Demand-2 (method t) future reserves) × (v ≡ accepted → Demand-3 (method t) future reserves)))
+with-demands t f r e = (e, (demand-1-of-answer t f r e, (demand-2-of-answer t f r e, demand-3-of-answer t f r e)))

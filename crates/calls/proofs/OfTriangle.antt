@@ -13,7 +13,8 @@ use Rattle.method.specs.Outstandings.{R, sums}
 use Rattle.method.specs.Outstandings as meaning
 use Rattle.method.specs.ProjectedYear.{Movement, figures, next-year}
 use Rattle.method.specs.RunOff.{O, movement, last-observed, year-before, future-row, future, paid-reserve, incurred-reserve, closing, reserves-row, reserves, method}
-use Rattle.method.specs.Questions.{at, ask, first-to, figures-in-range, question-9-of-year, question-9}
+use Rattle.method.specs.Verdicts.{at, ask, first-to}
+use Rattle.method.specs.Questions.{figures-in-range, question-9-of-year, question-9}
 use Rattle.method.proofs.Counting.{up-to-same}
 use Rattle.method.proofs.Sums.{sum-same}
 use Rattle.method.proofs.FirstRefusal.{first-same}
@@ -24,9 +25,9 @@ use Rattle.method.proofs.Readings.{R-in-range}
 use Rattle.method.proofs.SumBounds.{sums-in-range}
 use Rattle.triangle.specs.declared.ratios.Sums.{Sums}
 use Rattle.triangle.specs.Ratios.{DevelopmentOf}
-use Rattle.projection.specs.Year.{SumsRight}
+use Rattle.method.specs.SumLimits.{SumsInRange}
 use Rattle.calls.proofs.RowLoop.{same-three}
-use Rattle.calls.specs.Rows.{sums-at, outstanding-after, projected-year, row-question, row-verdict, row-figures, row-payments, row-adjustments, row-reserves, observed-of, verdict-of-row, figures-of-row, reserves-of-row, Projectable}
+use Rattle.calls.specs.ProjectedRows.{sums-at, outstanding-after, projected-year, row-question, figures-verdict, row-figures, row-payments, row-adjustments, row-reserves, observed-of, verdict-of-row, figures-of-row, reserves-of-row, Projectable}
 
 module _ {t : Triangle} {ratios : List Sums} {outstandings : List ℤ} (d : DevelopmentOf t ratios outstandings) where
   -- the sums of development year k, at k − 1
@@ -68,7 +69,7 @@ module _ {t : Triangle} {ratios : List Sums} {outstandings : List ℤ} (d : Deve
         ∙ ap₂ next-year (after-is j (omega arith)) (sums-are (n t - i + j) (year-before (method t) i (suc j)) (omega arith) (omega arith))
 
     verdict-is : verdict-of-row (n t) ratios outstandings i ≡ question-9-of-year t i
-    unfolding verdict-of-row row-verdict row-question question-9-of-year
+    unfolding verdict-of-row figures-verdict row-question question-9-of-year
     verdict-is = first-same (i - 1) _ _ (λ j h. ap (λ (m : Movement). ask (figures-in-range m) 9 (at i (suc (year-before (method t) i (suc j))))) (year-is j h))
 
     figures-are : figures-of-row (n t) ratios outstandings i ≡ future-row (method t) i
@@ -105,13 +106,5 @@ module _ {t : Triangle} {ratios : List Sums} {outstandings : List ℤ} (d : Deve
     outstanding = λ r h. rw (d .outstanding r h) (R-in-range t ok (r + 1) (n t - r) (omega arith) (omega arith));
   }
     where
-      right : (k : ℕ) → 1 ≤ k → k < n t → SumsRight (sums t k)
-      right k p q =
-          let s = sums-in-range t ok k p q in
-          record {
-            payments-size = s .P-size;
-            adjustments-size = s .Q-size;
-            exposure-positive = exposure k p q;
-            exposure-most = s .D-most;
-            factor-nonneg = s .factor-nonneg;
-          }
+      right : (k : ℕ) → 1 ≤ k → k < n t → SumsInRange (sums t k)
+      right k p q = sums-in-range t ok k p q (exposure k p q)

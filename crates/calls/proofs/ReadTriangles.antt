@@ -2,7 +2,8 @@
 use mathlib.Core.Path.{_≡_, sym, _∙_}
 use Prim.Native.Nat.{ℕ}
 use Rattle.method.specs.Triangle.{Triangle, n, future-length, reserves-length}
-use Rattle.method.specs.Questions.{Verdict, accepted, question-1, input-questions, question-8, observed-questions, question-9, questions, lengths-right}
+use Rattle.method.specs.Verdicts.{Verdict, accepted}
+use Rattle.method.specs.Questions.{question-1, input-questions, question-8, observed-questions, question-9, questions, lengths-right}
 use Rattle.method.proofs.FirstRefusal.{then-accepted, went-on}
 use Rattle.method.proofs.QuestionFacts as facts
 use Rattle.method.proofs.QuestionFacts.{Observed, observed-triangle, exposures-positive, says-lengths}
@@ -15,7 +16,7 @@ use Rattle.triangle.specs.declared.reading.Reading.{Reading}
 use Rattle.triangle.specs.Ratios.{DevelopmentOf}
 use Rattle.triangle.specs.Reading.{development, ReadingOf}
 use Rattle.triangle.proofs.Tables.{development-holds}
-use Rattle.calls.specs.Rows.{Projectable}
+use Rattle.calls.specs.ProjectedRows.{Projectable}
 use Rattle.calls.proofs.OfTriangle.{projectable}
 
 module _ {t : Triangle} {answers : AnswerLists} {r : Reading} (e : ReadingOf t answers r) (a : verdict-of (r .verdict) ≡ accepted) where
@@ -48,5 +49,5 @@ module _ {t : Triangle} {answers : AnswerLists} {r : Reading} (e : ReadingOf t a
 pub lists-whole : {t : Triangle} {f r : ℕ} {x : Reading} → ReadingOf t (OfLengths f r) x → verdict-of (x .verdict) ≡ accepted
     → (f ≡ future-length (n t)) × (r ≡ reserves-length (n t))
 lists-whole {t} {f} {r} e a =
-    let l = says-lengths t f r .sound (facts.lists-right t (lengths-right t f r) (both e a .0)) in
+    let l = says-lengths t f r .sound (facts.question-3-said-yes t (lengths-right t f r) (both e a .0)) in
     (l .future, l .reserves)

@@ -10,16 +10,16 @@ use lib.Seq.{sets, length-sets, take-all}
 use Rattle.method.specs.Limits.{one-unit}
 use Rattle.method.specs.Counting.{list-to}
 use Rattle.method.specs.Triangle.{future-length, reserves-length}
-use Rattle.method.specs.Questions.{Place, accepted, refused}
-use Rattle.method.specs.Claim.{unseen-before}
+use Rattle.method.specs.Verdicts.{Place, accepted, refused}
+use Rattle.method.specs.AnswerPlaces.{unseen-before}
 use Rattle.method.proofs.Counting.{up-to-none, up-to-more}
 use Rattle.method.proofs.FirstRefusal.{not-both, PassedSoFar, none-asked, next-accepted, next-refused, all-accepted}
 use Rattle.method.proofs.Positions.{entry-at, unseen-before-more, unseen-before-mono, unseen-cells}
 use Rattle.triangle.specs.declared.ratios.Sums.{Sums}
 use Rattle.verdicts.specs.Verdicts.{verdict-of}
-use Rattle.calls.specs.declared.rows.ProjectedRow.{ProjectedRow}
-use Rattle.calls.specs.Rows.{observed-of, verdict-of-row, figures-of-row, reserves-of-row, row-verdict, row-figures, row-reserves, RowInput, RowProjected, Projectable, RowsProjected}
-use Rattle.calls.proofs.RowLoop.{sets-filled}
+use Rattle.calls.specs.declared.projected_rows.ProjectedRow.{ProjectedRow}
+use Rattle.calls.specs.ProjectedRows.{observed-of, verdict-of-row, figures-of-row, reserves-of-row, figures-verdict, row-figures, row-reserves, reserves-answered, RowInput, RowProjected, Projectable, RowsProjected}
+use Rattle.calls.proofs.RowLoop.{sets-filled, figures-in-place, row-list-length}
 
 -- after r rows
 pub record RowsSoFar (n : ℕ) (ratios : List Sums) (outstandings future reserves : List ℤ) (place r : ℕ) : Type 0 where
@@ -70,7 +70,7 @@ module _ {n : ℕ} {ratios : List Sums} {outstandings : List ℤ} where
     pub row-verdict-is : {start : ℕ} {before after : List ℤ} {row : ProjectedRow} → RowProjected n ratios (r + 1) (units *ℤ one-unit) start before row after
         → verdict-of-row n ratios outstandings (r + 1) ≡ verdict-of (row .verdict)
     unfolding verdict-of-row
-    row-verdict-is p = ap (verdict-of-row n ratios outstandings) (add-one r) ∙ sym (of-row (row-verdict n ratios)) ∙ sym (p .verdict-is)
+    row-verdict-is p = ap (verdict-of-row n ratios outstandings) (add-one r) ∙ sym (of-row (figures-verdict n ratios)) ∙ sym (p .verdict-is)
 
   -- ---- Both lists
 
@@ -95,7 +95,7 @@ module _ {n : ℕ} {ratios : List Sums} {outstandings : List ℤ} where
       }
 
       module _ (e : verdict-of (row .verdict) ≡ accepted) where
-        accepted-row : row-verdict n ratios (r + 1) (units ok r more *ℤ one-unit) ≡ accepted
+        accepted-row : figures-verdict n ratios (r + 1) (units ok r more *ℤ one-unit) ≡ accepted
         accepted-row = sym (p .verdict-is) ∙ e
 
         abbrev three : List ℤ
@@ -105,21 +105,21 @@ module _ {n : ℕ} {ratios : List Sums} {outstandings : List ℤ} where
         unfolding figures-of-row
         figures-written =
             let e : r ≡ r + 1 - 1 = omega arith in
-            ap (λ (x : ℕ). take (place + 3 * x) after) e ∙ p .figures-are accepted-row
+            ap (λ (x : ℕ). take (place + 3 * x) after) e ∙ figures-in-place p accepted-row future-room
             ∙ ap (λ (xs : List ℤ). take place future ++ xs) (of-row ok r more (λ x o. row-figures n ratios x o (x - 1)))
 
         reserves-written : take (3 * suc r) (sets reserves (3 * r) three) ≡ take (3 * r) reserves ++ reserves-of-row n ratios outstandings (suc r)
-        unfolding reserves-of-row
+        unfolding reserves-of-row reserves-answered
         reserves-written =
             let e : 3 * suc r ≡ 3 * r + 3 = omega arith in
             ap (λ (x : ℕ). take x (sets reserves (3 * r) three)) e ∙ sets-filled three reserves (3 * r) reserves-room
-            ∙ ap (λ (xs : List ℤ). take (3 * r) reserves ++ xs) (p .reserves-are accepted-row ∙ of-row ok r more (row-reserves n ratios))
+            ∙ ap (λ (xs : List ℤ). take (3 * r) reserves ++ xs) (p .reserves-are ∙ rw accepted-row (of-row ok r more (row-reserves n ratios)))
 
         pub next-row : RowsSoFar n ratios outstandings after (sets reserves (3 * r) three) (place + 3 * r) (r + 1)
         next-row = subst (RowsSoFar n ratios outstandings after (sets reserves (3 * r) three) (place + 3 * r)) (sym (add-one r)) (record {
           asked = subst (PassedSoFar n (verdict-of-row n ratios outstandings)) (add-one r) (next-accepted (s .asked) more (row-verdict-is ok r more p ∙ e));
           place-is = next-place;
-          future-whole = p .same-length ∙ s .future-whole;
+          future-whole = row-list-length p ∙ s .future-whole;
           reserves-whole = length-sets reserves (3 * r) three ∙ s .reserves-whole;
           future-filled = figures-written ∙ ap (λ (xs : List ℤ). xs ++ figures-of-row n ratios outstandings (suc r)) (s .future-filled)
               ∙ sym (up-to-more _++_ [] r (figures-of-row n ratios outstandings));

@@ -6,12 +6,13 @@ use lib.ListN.{length}
 use Rattle.method.specs.Triangle.{Triangle}
 use Rattle.method.specs.RunOff.{method}
 use Rattle.method.specs.RunOff as meaning
-use Rattle.method.specs.Questions.{Verdict, accepted, questions, lengths-right}
+use Rattle.method.specs.Verdicts.{Verdict, accepted}
+use Rattle.method.specs.Questions.{questions, lengths-right}
 use Rattle.method.specs.Answers.{Answer}
 
 -- what the call that fills both lists gives back, and what it leaves in them
-abbrev pub answered : Verdict → List ℤ → List ℤ → Answer
-answered verdict future reserves = record { verdict = verdict; future = future; reserves = reserves }
+abbrev pub answer-of : Verdict → List ℤ → List ℤ → Answer
+answer-of verdict future reserves = record { verdict = verdict; future = future; reserves = reserves }
 
 -- both lists filled, where all questions accept; what a refusal leaves in them is cleared afterwards
 pub record Filled (t : Triangle) (future-before reserves-before : List ℤ) (v : Verdict) (future reserves : List ℤ) : Type 0 where

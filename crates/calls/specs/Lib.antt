@@ -1,3 +1,3 @@
 -- What the contracts of this crate say, in the words of the crate `method`.
-pub mod Rows
+pub mod ProjectedRows
 pub mod Answers

@@ -2,14 +2,15 @@
 ghost use mathlib.Core.Path.{_≡_};
 ghost use lib.ListN.{length};
 ghost use Rattle.method.specs.RunOff.{method};
-ghost use Rattle.method.specs.Questions.{accepted};
+ghost use Rattle.method.specs.Verdicts.{accepted};
 ghost use Rattle.method.specs.Answers.{answer};
 ghost use Rattle.method.specs.Demand1.{Demand-1};
-ghost use Rattle.method.specs.Claim.{Demand-3};
+ghost use Rattle.method.specs.Demand2.{Demand-2};
+ghost use Rattle.method.specs.Demand3.{Demand-3};
 ghost use Rattle.verdicts.specs.Verdicts.{verdict-of};
 ghost use Rattle.questions.specs.Lent.{lent};
-ghost use Rattle.calls.specs.Answers.{answered, Filled};
-use crate::rows::project;
+ghost use Rattle.calls.specs.Answers.{answer-of, Filled};
+use crate::projected_rows::project;
 use projection::lists::clear;
 use questions::inputs::AnswerLists;
 use triangle::reading::read;
@@ -27,16 +28,20 @@ pub fn reserve<'a>(
     future: &mut [i64],
     reserves: &mut [i64],
 ) -> Verdict
-    ensures { λ r. ⌜ answered (verdict-of r) (now (future .exit)) (now (reserves .exit))
+    ensures whole { λ r. ⌜ answer-of (verdict-of r) (now (future .exit)) (now (reserves .exit))
         ≡ answer
         (lent years cut (now (payments .entry)) (now (adjustments .entry)) (now (weights .entry)) (now (openings .entry)))
         (length (now (future .entry))) (length (now (reserves .entry))) ⌝ }
-    ensures { λ r. ⌜ (verdict-of r ≡ accepted → Demand-3
+    ensures demand_1 { λ r. ⌜ Demand-1
+        (lent years cut (now (payments .entry)) (now (adjustments .entry)) (now (weights .entry)) (now (openings .entry)))
+        (length (now (future .entry))) (length (now (reserves .entry)))
+        (verdict-of r) (now (future .exit)) (now (reserves .exit)) ⌝ }
+    ensures demand_2 { λ r. ⌜ (verdict-of r ≡ accepted → Demand-2
         (method (lent years cut (now (payments .entry)) (now (adjustments .entry)) (now (weights .entry)) (now (openings .entry))))
         (now (future .exit)) (now (reserves .exit))) ⌝ }
-    ensures { λ r. ⌜ Demand-1
-        (lent years cut (now (payments .entry)) (now (adjustments .entry)) (now (weights .entry)) (now (openings .entry)))
-        (length (now (future .entry))) (length (now (reserves .entry))) (verdict-of r) ⌝ }
+    ensures demand_3 { λ r. ⌜ (verdict-of r ≡ accepted → Demand-3
+        (method (lent years cut (now (payments .entry)) (now (adjustments .entry)) (now (weights .entry)) (now (openings .entry))))
+        (now (future .exit)) (now (reserves .exit))) ⌝ }
 {
     let verdict = fill(
         years,

@@ -8,7 +8,8 @@ use native.Mathlib.Omega.{arith}
 use lib.IntN.{ℤ, pos}
 use lib.ListN.{length, getD}
 use Rattle.method.specs.Triangle.{Triangle, n, Y, amounts-length, cell, entry}
-use Rattle.method.specs.Questions.{Verdict, accepted, refused, at, ask, _then_, first-to, each-in-row, weight-in-range, amount-right, unweighted, weight-allowed, question-4, question-5, question-7}
+use Rattle.method.specs.Verdicts.{Verdict, accepted, refused, at, ask, _then_, first-to, each-in-row}
+use Rattle.method.specs.Questions.{question-4, question-5, question-7}
 use Rattle.method.proofs.FirstRefusal.{ask-yes, ask-no, first-same}
 use Rattle.method.proofs.Positions.{entry-at}
 use Rattle.method.proofs.Rows.{part-length, part-holds}
@@ -31,12 +32,12 @@ module _ (test : CellTest) (cut i : ℕ) (row : List ℤ) (j : ℕ) where
 -- ---- A row as the part of its list that it is
 
 -- its numbers are the cells
-pub part-entry : (n r : ℕ) (xs : List ℤ) → length xs ≡ amounts-length n → (j : ℕ) → r + j < n → entry (row-part n r xs) (suc j) ≡ cell n xs (suc r) (suc j)
+pub part-entry : (n r : ℕ) (xs : List ℤ) → length xs ≡ amounts-length n → (j : ℕ) → r + j < n → entry (row-part n r xs) (suc j) ≡ cell (pos 0) n xs (suc r) (suc j)
 part-entry n r xs long j h = entry-at (row-part n r xs) j ∙ part-holds n r xs (omega arith) long j h
 
 -- the rows of a list, as `whole-list` asks them
 abbrev pub rows-of-list : CellTest → ℕ → ℕ → List ℤ → ℕ → Verdict
-rows-of-list test cut n xs = each-in-row n (number-of test) (λ i k. passes test cut i k (cell n xs i k))
+rows-of-list test cut n xs = each-in-row n (number-of test) (λ i k. passes test cut i k (cell (pos 0) n xs i k))
 
 -- a row, asked as the part of the list that it is
 pub row-as-part : (test : CellTest) (cut n : ℕ) (xs : List ℤ) (r : ℕ) → r < n → length xs ≡ amounts-length n
@@ -48,25 +49,25 @@ row-as-part test cut n xs r l long =
     ∙ first-same (n + 1 - (r + 1)) (cell-of-row test cut (r + 1) (row-part n r xs)) (asked (r + 1)) same
   where
     asked : ℕ → ℕ → Verdict
-    asked i k = ask (passes test cut i k (cell n xs i k)) (number-of test) (at i k)
+    asked i k = ask (passes test cut i k (cell (pos 0) n xs i k)) (number-of test) (at i k)
 
     same : (j : ℕ) → j < n + 1 - (r + 1) → cell-of-row test cut (r + 1) (row-part n r xs) (suc j) ≡ asked (r + 1) (suc j)
     same j h =
-        let e : entry (row-part n r xs) (suc j) ≡ cell n xs (r + 1) (suc j) =
-        part-entry n r xs long j (omega arith) ∙ ap (λ (i : ℕ). cell n xs i (suc j)) (sym (add-one r)) in
+        let e : entry (row-part n r xs) (suc j) ≡ cell (pos 0) n xs (r + 1) (suc j) =
+        part-entry n r xs long j (omega arith) ∙ ap (λ (i : ℕ). cell (pos 0) n xs i (suc j)) (sym (add-one r)) in
         ap (λ (x : ℤ). ask (passes test cut (r + 1) (suc j) x) (number-of test) (at (r + 1) (suc j))) e
 
 -- ---- The questions as tests of whole lists
 
 module _ (t : Triangle) where
   pub question-4-is : whole-list WeightInRange (Y t) (n t - 1) (t .weights) ≡ question-4 t
-  unfolding whole-list question-4 weight-in-range
+  unfolding whole-list question-4
   question-4-is = refl
 
   pub question-5-is : (whole-list AmountRight (Y t) (n t) (t .payments) then whole-list AmountRight (Y t) (n t) (t .adjustments)) ≡ question-5 t
-  unfolding whole-list question-5 amount-right
+  unfolding whole-list question-5
   question-5-is = refl
 
   pub question-7-is : whole-list WeightAllowed (Y t) (n t - 1) (t .weights) ≡ question-7 t
-  unfolding whole-list question-7 weight-allowed unweighted
+  unfolding whole-list question-7
   question-7-is = refl

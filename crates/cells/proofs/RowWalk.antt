@@ -7,7 +7,7 @@ use native.Mathlib.Omega.{arith}
 use lib.IntN.{ℤ}
 use lib.ListN.{take, drop}
 use Rattle.method.specs.Triangle.{amounts-length, cells-before}
-use Rattle.method.specs.Questions.{Verdict, accepted}
+use Rattle.method.specs.Verdicts.{Verdict, accepted}
 use Rattle.cells.specs.Cells.{row-part}
 use Rattle.method.proofs.FirstRefusal.{PassedSoFar, none-asked, next-accepted}
 use Rattle.method.proofs.Positions.{cells-before-none, cells-before-more, row-inside}

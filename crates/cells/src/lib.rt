@@ -4,8 +4,9 @@ ghost use Prim.Native.Nat.{_+_, _≤_};
 ghost use lib.ListN.{length};
 ghost use Rattle.method.specs.Limits.{most-accident-years};
 ghost use Rattle.method.specs.Triangle.{amounts-length};
+ghost use Rattle.method.specs.Tests.{zero-where-missing};
 ghost use Rattle.verdicts.specs.Verdicts.{verdict-of};
-ghost use Rattle.cells.specs.Cells.{passes, number-of, empty-where-missing, row-of-list, whole-list};
+ghost use Rattle.cells.specs.Cells.{passes, number-of, row-of-list, whole-list};
 use verdicts::limits::GREATEST_AMOUNT;
 use verdicts::limits::GREATEST_WEIGHT;
 use verdicts::limits::from_to;
@@ -82,7 +83,7 @@ fn cell_passes(test: CellTest, cut: usize, i: usize, k: usize, x: i64) -> bool
 // Whether x is 0 if i + k is at most the cut.
 fn zero_up_to_cut(cut: usize, i: usize, k: usize, x: i64) -> bool
     requires { ⌜ (i ≤ most-accident-years) × (k ≤ most-accident-years) ⌝ }
-    ensures { λ r. ⌜ r ≡ empty-where-missing cut i k x ⌝ }
+    ensures { λ r. ⌜ r ≡ zero-where-missing cut i k x ⌝ }
 {
     !(i + k <= cut) | (x == 0)
 }

@@ -6,7 +6,7 @@ use native.Mathlib.Omega.{arith}
 use lib.IntN.{ℤ, pos}
 use lib.ListN.{getD}
 use Rattle.method.specs.Triangle.{amounts-length, cells-before, cell}
-use Rattle.method.specs.Claim.{unseen-before, cell-figure, year-figure}
+use Rattle.method.specs.AnswerPlaces.{unseen-before, cell-figure, year-figure}
 use Rattle.method.proofs.Positions.{cells-before-is, cell-of-place, unseen-cells}
 use Rattle.completed.specs.Completed.{CellOfSquare}
 
@@ -24,10 +24,10 @@ module _ {n i k : ℕ} (h : CellOfSquare n i k) where
   pub rest-inside : rest ≤ amounts-length n
   rest-inside = row-start .1
 
-  pub cell-at-place : (list : List ℤ) → getD list (amounts-length n - rest + (k - 1)) (pos 0) ≡ cell n list i k
+  pub cell-at-place : (list : List ℤ) → getD list (amounts-length n - rest + (k - 1)) (pos 0) ≡ cell (pos 0) n list i k
   cell-at-place list =
-      cell-of-place n list (i - 1) k (amounts-length n - rest + (k - 1)) (h .first-year) (ap (λ start. start + (k - 1)) (sym (row-start .0)))
-      ∙ ap (λ year. cell n list year k) year-after
+      cell-of-place (pos 0) n list (i - 1) k (amounts-length n - rest + (k - 1)) (h .first-year) (ap (λ start. start + (k - 1)) (sym (row-start .0)))
+      ∙ ap (λ year. cell (pos 0) n list year k) year-after
 
   module _ (unseen : n + 1 < i + k) (figure : ℕ) where
     future-place : 3 * ((i - 1) * (i - 1 - 1) / 2 + (i + k - n - 2)) + figure ≡ 3 * (unseen-before i + (i + (k - 1) - suc n)) + figure

@@ -11,9 +11,9 @@ use mir.Val.{SFits}
 use Rattle.figures.specs.declared.exact.Exact.{Exact}
 use Rattle.figures.specs.declared.exact.Exact.the-variants.{Of, TooLarge}
 use Rattle.method.specs.Limits.{greatest-amount, greatest-outstanding, most-accident-years}
-use Rattle.method.specs.Triangle.{Triangle, cell, S, T}
+use Rattle.method.specs.Triangle.{Triangle, seen, cell, S, T}
 use Rattle.method.specs.Outstandings.{R}
-use Rattle.method.specs.Claim.{cell-figure}
+use Rattle.method.specs.AnswerPlaces.{cell-figure}
 use Rattle.completed.specs.declared.shown.Shown.{Shown}
 use Rattle.completed.specs.declared.shown.Shown.the-variants.{Missing, Observed, Projected}
 
@@ -28,12 +28,12 @@ pub record CellOfSquare (n i k : ℕ) : Type 0 where
 -- What is shown in cell (i, k), of which the seen ones are known from those on whose years add up to `first`.
 abbrev pub shown-in : ℕ → ℕ → ℕ → ℕ → ℤ → ℤ → Shown
 shown-in n first i k observed projected =
-    cond (leb (i + k) (n + 1)) (cond (leb first (i + k)) (Observed observed) Missing) (Projected projected)
+    cond (seen n i k) (cond (leb first (i + k)) (Observed observed) Missing) (Projected projected)
 
 -- An amount of a list: a cell whose years add up to no more than the cut is missing.
 -- `figure` is its place among a cell's three in the future list: 0 for payments, 1 for adjustments.
 unfoldable pub amount-in : ℕ → ℕ → List ℤ → List ℤ → ℕ → ℕ → ℕ → Shown
-amount-in n cut list future figure i k = shown-in n (cut + 1) i k (cell n list i k) (cell-figure n future figure i (k - 1))
+amount-in n cut list future figure i k = shown-in n (cut + 1) i k (cell (pos 0) n list i k) (cell-figure n future figure i (k - 1))
 
 -- ---- Outstandings
 

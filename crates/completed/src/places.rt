@@ -3,14 +3,15 @@ ghost use mathlib.Core.Path.{_≡_};
 ghost use Prim.Native.Nat.{_+_, _-_, _≤_, _<_};
 ghost use lib.IntN.{pos};
 ghost use lib.ListN.{getD};
+ghost use Rattle.method.specs.Limits.{most-accident-years};
 ghost use Rattle.method.specs.Triangle.{cell};
-ghost use Rattle.method.specs.Claim.{cell-figure, year-figure};
+ghost use Rattle.method.specs.AnswerPlaces.{cell-figure, year-figure};
 ghost use Rattle.completed.specs.Completed.{CellOfSquare};
 
 // Cell (i, k) of a list whose rows have n, n − 1, … cells; 0 where the list has ended.
 pub(crate) fn cell_at(n: usize, list: &[i64], i: usize, k: usize) -> i64
     requires { ⌜ CellOfSquare n i k ⌝ }
-    ensures { λ r. ⌜ r ≡ cell n (now (list .entry)) i k ⌝ }
+    ensures { λ r. ⌜ r ≡ cell (pos 0) n (now (list .entry)) i k ⌝ }
 {
     // The row and the later ones end a list of its length.
     let cells = n - i + 1;
@@ -31,7 +32,7 @@ pub(crate) fn future_at(n: usize, future: &[i64], figure: usize, i: usize, k: us
 
 // One of the three figures of accident year i in the reserve list; 0 where the list has ended.
 pub fn reserve_at(reserves: &[i64], figure: usize, i: usize) -> i64
-    requires { ⌜ (i ≤ 32) × (figure < 3) ⌝ }
+    requires { ⌜ (i ≤ most-accident-years) × (figure < 3) ⌝ }
     ensures { λ r. ⌜ r ≡ year-figure (now (reserves .entry)) figure i ⌝ }
 {
     if i == 0 {

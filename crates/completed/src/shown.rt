@@ -1,6 +1,7 @@
 // What is shown in a cell.
 ghost use mathlib.Core.Path.{_≡_};
 ghost use Prim.Native.Nat.{_<_, _≤_};
+ghost use Rattle.method.specs.Limits.{most-accident-years};
 ghost use Rattle.completed.specs.Completed.{CellOfSquare, amount-in, OutstandingShown, of-lists};
 use crate::outstanding::outstanding_at;
 use crate::places::cell_at;
@@ -23,7 +24,7 @@ pub fn amount_shown<'a>(
     i: usize,
     k: usize,
 ) -> Shown
-    requires { ⌜ CellOfSquare n i k × (cut ≤ 32) × (figure < 3) ⌝ }
+    requires { ⌜ CellOfSquare n i k × (cut ≤ most-accident-years) × (figure < 3) ⌝ }
     ensures { λ r. ⌜ r ≡ amount-in n cut (now (list .entry)) (now (future .entry)) figure i k ⌝ }
 {
     if n + 1 < i + k {
@@ -46,7 +47,7 @@ pub fn outstanding_shown<'a>(
     i: usize,
     k: usize,
 ) -> Shown
-    requires { ⌜ CellOfSquare n i k × (cut ≤ 32) ⌝ }
+    requires { ⌜ CellOfSquare n i k × (cut ≤ most-accident-years) ⌝ }
     ensures { λ r. ⌜ OutstandingShown n cut
         (of-lists n (now (payments .entry)) (now (adjustments .entry)) (now (openings .entry)))
         (now (future .entry)) i k r ⌝ }

@@ -1,11 +1,9 @@
 // The C interface: the calls of a host, as include/juniperprow.h declares them. A list is a pointer and then a count.
 ghost use mathlib.Core.Path.{_≡_};
 ghost use lib.ListN.{length};
-ghost use Rattle.method.specs.Answers.{single-cell};
-ghost use Rattle.method.specs.Answers as meaning;
 ghost use Rattle.verdicts.specs.Verdicts.{verdict-of};
 ghost use Rattle.questions.specs.Lent.{lent};
-ghost use Rattle.juniperprow.specs.HostAnswers.{verdict-answer, cell-answer, ReserveAnswered};
+ghost use Rattle.juniperprow.specs.HostAnswers.{verdict-answer, ReserveAnswered, CellAnswered, RowAnswered};
 use calls::reserve::reserve;
 use rows::AmountList;
 use rows::row_verdict;
@@ -70,9 +68,9 @@ pub extern "C" fn juniperprow_single_cell<'a>(
     accident_year: i64,
     development_year: i64,
 ) -> CellAnswer
-    ensures { λ r. ⌜ r ≡ cell-answer (single-cell
+    ensures { λ r. ⌜ CellAnswered
         (lent years cut (now (payments .entry)) (now (adjustments .entry)) (now (weights .entry)) (now (openings .entry)))
-        «accident_year» «development_year») ⌝ }
+        «accident_year» «development_year» r ⌝ }
 {
     let cell = single_cell(
         years,
@@ -102,7 +100,7 @@ pub extern "C" fn juniperprow_row_verdict<'a>(
     adjustments: &'a [i64],
     accident_year: i64,
 ) -> VerdictAnswer
-    ensures { λ r. ⌜ r ≡ verdict-answer (meaning.row-verdict years (now (payments .entry)) (now (adjustments .entry)) «accident_year») ⌝ }
+    ensures { λ r. ⌜ RowAnswered years (now (payments .entry)) (now (adjustments .entry)) «accident_year» r ⌝ }
 {
     let named = AmountList::Payments;
     let verdict = row_verdict(years, payments, adjustments, named, accident_year);

@@ -1,13 +1,13 @@
 -- Questions asked one after another, each by a test at each of its places: the verdict is the one that what they want decides.
 use mathlib.Core.Path.{_≡_, refl, sym, ap₂, _∙_, subst}
 use mathlib.Core.Logic.{_⊎_, inl, inr}
-use mathlib.Core.Bool.{Bool, true, false, not, _||_}
+use mathlib.Core.Bool.{Bool, true, false}
 use mathlib.Core.List.{List, [], _∷_}
 use Prim.Native.Nat.{ℕ, _+_, _-_, _≤_, _<_}
 use native.Mathlib.Decide.{decLt}
 use native.Mathlib.Omega.{arith}
-use Rattle.method.specs.Questions.{Place, Verdict, accepted, refused, at, nowhere, _then_, ask, first-to, each-in-row, each-cell}
-use Rattle.method.specs.Demand1.{Question, Passed, Before, FirstNo, AllPassed, FirstNoOf, DecidedBy, question-once, Cell}
+use Rattle.method.specs.Verdicts.{Place, Verdict, accepted, refused, nowhere, _then_, ask, first-to, each-in-row, each-cell}
+use Rattle.method.specs.Demand1.{Question, Passed, Before, FirstNo, AllPassed, FirstNoOf, DecidedBy, question, question-once, Cell}
 use Rattle.method.proofs.Tests.{Says, differ}
 use Rattle.method.proofs.FirstRefusal.{not-both, ask-accepted, ask-refused, then-accepted, then-refused, first-accepted, FirstOf, first-refused}
 
@@ -21,17 +21,18 @@ pub record Told (b : Bool) (Asked Wanted : Type 0) : Type 0 where
 pub told : {b : Bool} {Asked Wanted : Type 0} → Asked → Says b Wanted → Told b Asked Wanted
 told a s = record { yes = λ e x. s .sound e; no = λ e. (a, λ x. differ (s .complete x) e) }
 
-pub told-where : {a b : Bool} {Cell P Wanted : Type 0} → Cell → Says a P → Says b Wanted → Told (not a || b) (Cell × P) Wanted
-told-where {a = true} cell s r = record { yes = λ e x. r .sound e; no = λ e. ((cell, s .sound refl), λ x. differ (r .complete x) e) }
-told-where {a = false} cell s r = record { yes = λ e x. absurd (differ (s .complete (x .1)) refl); no = λ e. absurd (differ refl e) }
+-- where it is asked only if P, and the test passes where not
+pub told-where : {b : Bool} {Place P Wanted : Type 0} → Place → Dec P → Says b (P → Wanted) → Told b (Place × P) Wanted
+told-where here (yes p) s = record { yes = λ e x. s .sound e p; no = λ e. ((here, p), λ x. differ (s .complete (λ p. x)) e) }
+told-where here (no p) s = record { yes = λ e x. absurd (p (x .1)); no = λ e. absurd (differ (s .complete (λ x. absurd (p x))) e) }
 
 -- v is the verdict of the question alone
 pub record Answers (v : Verdict) (q : Question) : Type 0 where
   pub yes : v ≡ accepted → Passed q
   pub no : (number : ℕ) (p : Place) → v ≡ refused number p → FirstNo q number p
 
-pub once : {b : Bool} {number : ℕ} {P : Type 0} → Says b P → Answers (ask b number nowhere) (question-once number P)
-once {b} {number = question} s = record {
+pub asked-once : {b : Bool} {number : ℕ} {P : Type 0} → Says b P → Answers (ask b number nowhere) (question-once number P)
+asked-once {b} {number = question} s = record {
   yes = λ e i k x. s .sound (ask-accepted b question nowhere e);
   no = λ number p e. record {
     i = 0;
@@ -61,20 +62,20 @@ module _ (q : Question) (i len : ℕ) (col : ℕ → ℕ) (test : ℕ → Bool)
     (rising : (j j′ : ℕ) → col j < col j′ → j < j′)
     (cell : (j : ℕ) → 1 ≤ j → j ≤ len → Told (test j) (q .asked-at i (col j)) (q .wants i (col j))) where
   abbrev row-asks : ℕ → Verdict
-  row-asks j = ask (test j) (q .number) (at i (col j))
+  row-asks j = ask (test j) (q .number-at i (col j)) (q .place-at i (col j))
 
   wanted : (a k : ℕ) → a ≡ i → (x : OneOf len col k) → row-asks (x .j) ≡ accepted → q .asked-at a k → q .wants a k
   wanted a k s x e =
       subst (λ (b : ℕ). q .asked-at b k → q .wants b k) (sym s)
       (subst (λ (c : ℕ). q .asked-at i c → q .wants i c) (sym (x .is))
-      (cell (x .j) (x .first) (x .last) .yes (ask-accepted (test (x .j)) (q .number) (at i (col (x .j))) e)))
+      (cell (x .j) (x .first) (x .last) .yes (ask-accepted (test (x .j)) (q .number-at i (col (x .j))) (q .place-at i (col (x .j))) e)))
 
-  pub row : Answers (first-to len (λ j. ask (test j) (q .number) (at i (col j)))) q
-  row = record {
+  pub asked-in-row : Answers (first-to len (λ j. ask (test j) (q .number-at i (col j)) (q .place-at i (col j)))) q
+  asked-in-row = record {
     yes = λ e a k x. let (s, y) = inside a k x in wanted a k s y (first-accepted len row-asks e (y .j) (y .first) (y .last)) x;
     no = λ number p e.
         let f : FirstOf len row-asks number p = first-refused len row-asks e in
-        let r = ask-refused (test (f .j)) (q .number) (at i (col (f .j))) (f .refuses) in
+        let r = ask-refused (test (f .j)) (q .number-at i (col (f .j))) (q .place-at i (col (f .j))) (f .refuses) in
         let c = cell (f .j) (f .first) (f .last) .no (r .0) in
         record {
           i = i;
@@ -92,15 +93,15 @@ module _ (q : Question) (i len : ℕ) (col : ℕ → ℕ) (test : ℕ → Bool)
       earlier a b j s y (inr l) = rising (y .j) j (omega (arith, l .1, y .is))
 
 abbrev pub in-row : ℕ → Question → Question
-in-row i q = record { number = q .number; asked-at = λ a k. (a ≡ i) × q .asked-at a k; wants = q .wants }
+in-row i q = record { asked-at = λ a k. (a ≡ i) × q .asked-at a k; wants = q .wants; number-at = q .number-at; place-at = q .place-at }
 
 pub in-own-row : {b : Bool} {i : ℕ} {Asked Wanted : Type 0} → Told b Asked Wanted → Told b ((i ≡ i) × Asked) Wanted
 in-own-row t = record { yes = λ e x. t .yes e (x .1); no = λ e. ((refl, t .no e .0), t .no e .1) }
 
 -- and one that is asked in rows 1 to m
-pub rows : (q : Question) (m : ℕ) (f : ℕ → Verdict) → ((i k : ℕ) → q .asked-at i k → (1 ≤ i) × (i ≤ m))
+pub asked-row-by-row : (q : Question) (m : ℕ) (f : ℕ → Verdict) → ((i k : ℕ) → q .asked-at i k → (1 ≤ i) × (i ≤ m))
     → ((i : ℕ) → 1 ≤ i → i ≤ m → Answers (f i) (in-row i q)) → Answers (first-to m f) q
-rows q m f inside each = record {
+asked-row-by-row q m f inside each = record {
   yes = λ e i k x. passed i k x (first-accepted m f e i (inside i k x .0) (inside i k x .1));
   no = λ number p e. first number p (first-refused m f e);
 }
@@ -125,13 +126,13 @@ rows q m f inside each = record {
         before a b y x (inl l) = passed a b y (r .before a (inside a b y .0) (omega (arith, x .asked .0)))
         before a b y x (inr l) = x .yes-before a b (l .0 ∙ x .asked .0, y) (inr l)
 
--- every cell of m rows, of m, m − 1, … cells
-pub cells : (q : Question) (m : ℕ) (test : ℕ → ℕ → Bool) → ((i k : ℕ) → q .asked-at i k → Cell (m + 1) i k)
-    → ((i k : ℕ) → Cell (m + 1) i k → Told (test i k) (q .asked-at i k) (q .wants i k)) → Answers (each-cell m (q .number) test) q
+-- every cell of m rows, of m, m − 1, … cells, with one number
+pub asked-cell-by-cell : (number m : ℕ) {asked-at wants : ℕ → ℕ → Type 0} (test : ℕ → ℕ → Bool) → ((i k : ℕ) → asked-at i k → Cell (m + 1) i k)
+    → ((i k : ℕ) → Cell (m + 1) i k → Told (test i k) (asked-at i k) (wants i k)) → Answers (each-cell m number test) (question number asked-at wants)
 unfolding each-cell each-in-row
-cells q m test inside cell =
-    rows q m (each-in-row m (q .number) test) (λ i k x. let (p, r, l) = inside i k x in (p, omega (arith, r, l)))
-    (λ i p l. row (in-row i q) i (m + 1 - i) (λ j. j) (test i)
+asked-cell-by-cell number m {asked-at} {wants} test inside cell =
+    asked-row-by-row (question number asked-at wants) m (each-in-row m number test) (λ i k x. let (p, r, l) = inside i k x in (p, omega (arith, r, l)))
+    (λ i p l. asked-in-row (in-row i (question number asked-at wants)) i (m + 1 - i) (λ j. j) (test i)
     (λ a k x. (x .0, let (c, d, e) = inside a k (x .1) in record { j = k; first = d; last = omega (arith, e, x .0); is = refl }))
     (λ j j′ r. r)
     (λ j f e. in-own-row (cell i j (p, f, omega arith))))
@@ -180,7 +181,7 @@ one-first q m m′ p p′ x y = go (order (x .i) (x .k) (y .i) (y .k))
     go : Before (x .i) (x .k) (y .i) (y .k) ⊎ (Before (y .i) (y .k) (x .i) (x .k) ⊎ ((x .i ≡ y .i) × (x .k ≡ y .k))) → refused m p ≡ refused m′ p′
     go (inl l) = absurd (x .no (y .yes-before (x .i) (x .k) (x .asked) l))
     go (inr (inl l)) = absurd (y .no (x .yes-before (y .i) (y .k) (y .asked) l))
-    go (inr (inr e)) = ap₂ refused (x .number-is ∙ sym (y .number-is)) (x .place-is ∙ ap₂ at (e .0) (e .1) ∙ sym (y .place-is))
+    go (inr (inr e)) = ap₂ refused (x .number-is ∙ ap₂ (q .number-at) (e .0) (e .1) ∙ sym (y .number-is)) (x .place-is ∙ ap₂ (q .place-at) (e .0) (e .1) ∙ sym (y .place-is))
 
 not-all : (qs : List Question) (number : ℕ) (p : Place) → FirstNoOf qs number p → AllPassed qs → ⊥
 not-all [] number p x h = x

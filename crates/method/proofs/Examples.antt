@@ -9,7 +9,9 @@ use Rattle.method.specs.Triangle.{Triangle, cells-before, cell, entry}
 use Rattle.method.specs.Outstandings.{R, sums}
 use Rattle.method.specs.ProjectedYear.{figures, share, next-year, unrounded-year, allowed-year}
 use Rattle.method.specs.RunOff.{account, O, U, A, movement, unrounded-movement, allowance, future-row, future, paid-reserve, incurred-reserve, closing, reserves-row, reserves, paid-allowance, incurred-allowance, method}
-use Rattle.method.specs.Questions.{number, place, _then_, ask, first-to, each-in-row, each-cell, years-in-range, figures-in-range, cut-in-range, input-lengths-right, lengths-right, weight-in-range, amount-right, known, outstanding-in-range, unweighted, weight-allowed, exposure-positive, question-1, question-2, question-3, question-4, question-5, question-6, question-7, question-8, question-9-of-year, question-9, list-questions, input-questions, observed-questions, questions, cell-unseen, accident-year-in-range, question-10}
+use Rattle.method.specs.Verdicts.{number, place, _then_, ask, first-to, each-in-row, each-cell}
+use Rattle.method.specs.Tests.{years-in-range, cut-in-range, weight-in-range, zero-where-missing, amount-right, known, outstanding-in-range, weight-allowed, figure-in-range}
+use Rattle.method.specs.Questions.{figures-in-range, input-lengths-right, lengths-right, question-1, question-2, question-3, question-4, question-5, question-6, question-7, question-8, question-9-of-year, question-9, list-questions, input-questions, observed-questions, questions, cell-unseen, accident-year-in-range, question-10}
 use Rattle.method.specs.Answers.{Answer, filled, answer, cell-verdict, cell-figures, single-cell, both-lengths-right, row-verdict, named-list, row-of, row}
 use Rattle.method.specs.Examples.{Hold, E1-to-E12, E2-uses-its-allowances, E5-allowances}
 use Rattle.method.specs.OtherReadings.{X13-to-X52}
@@ -17,7 +19,7 @@ use Rattle.method.specs.CellAndRowExamples.{Cells-hold, cell-examples, R
 
 -- the answer, with every definition on the way open
 computed : Triangle → ℕ → ℕ → Answer
-unfolding floor half-up up-to cells-before cell entry R sums share next-year figures account O movement future-row future paid-reserve incurred-reserve closing reserves-row reserves _then_ ask first-to each-in-row each-cell years-in-range figures-in-range cut-in-range input-lengths-right lengths-right weight-in-range amount-right known outstanding-in-range unweighted weight-allowed exposure-positive question-1 question-2 question-3 question-4 question-5 question-6 question-7 question-8 question-9-of-year question-9 list-questions input-questions observed-questions questions filled answer number place
+unfolding floor half-up up-to cells-before cell entry R sums share next-year figures account O movement future-row future paid-reserve incurred-reserve closing reserves-row reserves _then_ ask first-to each-in-row each-cell years-in-range figures-in-range cut-in-range input-lengths-right lengths-right weight-in-range zero-where-missing amount-right known outstanding-in-range weight-allowed figure-in-range question-1 question-2 question-3 question-4 question-5 question-6 question-7 question-8 question-9-of-year question-9 list-questions input-questions observed-questions questions filled answer number place
 computed t future-room reserves-room = answer t future-room reserves-room
 
 -- the same for an allowance and an unrounded outstanding

@@ -1,4 +1,4 @@
--- Laws of the definitions and proofs of the statements in specs/. From below: tests and verdicts, lists, sums, any rule of a year, the projection, the claim.
+-- Laws of the definitions and proofs of the statements in specs/. From below: tests and verdicts, lists, sums, any rule of a year, the projection, the claim, the theorem of the 2008 paper.
 pub mod Examples
 pub mod Tests
 pub mod Counting
@@ -17,5 +17,8 @@ pub mod Readings
 pub mod WholeAnswers
 pub mod AskedQuestions
 pub mod ProofOfDemand1
+pub mod ProofOfDemand2
 pub mod ProofOfDemand3
 pub mod SingleCell
+pub mod Demands
+pub mod Theorem

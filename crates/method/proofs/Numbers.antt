@@ -1,42 +1,40 @@
--- Only an accepted call has the number 0: every question has a number above it.
+-- Only an accepted call has the number 0: every row of the tables of questions has a number above it.
 use mathlib.Core.Path.{_≡_, refl}
-use mathlib.Core.Bool.{Bool, true, false}
-use Prim.Native.Nat.{ℕ, zero, suc}
-use native.Mathlib.Nat.{suc-ne-zero}
-use Rattle.method.specs.Counting.{up-to}
+use mathlib.Core.Logic.{inl, inr}
+use mathlib.Core.List.{List, [], _∷_, _++_}
+use Prim.Native.Nat.{ℕ, suc, _≤_}
+use native.Mathlib.Omega.{arith}
+use lib.IntN.{ℤ}
+use Rattle.method.specs.Verdicts.{Place, Verdict, accepted, refused, number}
 use Rattle.method.specs.Triangle.{Triangle}
-use Rattle.method.specs.Questions.{Place, Verdict, accepted, refused, number, _then_, ask, first-to, each-in-row, each-cell, question-1, question-2, question-3, question-4, question-5, question-6, question-7, question-8, question-9-of-year, question-9, list-questions, input-questions, observed-questions, questions}
+use Rattle.method.specs.Answers.{CellAnswer}
+use Rattle.method.specs.Demand1.{Question, FirstNoOf, DecidedBy, triangle-questions, InputLengthsRight, LengthsRight, Demand-1, unseen-question, cell-questions, Demand-1-of-cell}
 
-record Numbered (v : Verdict) : Type 0 where
-  only-accepted : number v ≡ 0 → v ≡ accepted
+abbrev AllNumbered : List Question → Type 0
+AllNumbered [] = Unit {0}
+AllNumbered (q ∷ later) = ((i k : ℕ) → 1 ≤ q .number-at i k) × AllNumbered later
 
-asked : (b : Bool) (question : ℕ) (p : Place) → Numbered (ask b (suc question) p)
-unfolding ask number
-asked true question p = record { only-accepted = λ e. refl }
-asked false question p = record { only-accepted = λ e. absurd (suc-ne-zero question e) }
+first-no-numbered : (qs : List Question) → AllNumbered qs → (number : ℕ) (p : Place) → FirstNoOf qs number p → 1 ≤ number
+first-no-numbered [] h number p x = absurd x
+first-no-numbered (q ∷ qs) h number p (inl x) = omega (arith, x .number-is, h .0 (x .i) (x .k))
+first-no-numbered (q ∷ qs) h number p (inr x) = first-no-numbered qs (h .1) number p (x .1)
 
-infixr 20 _and-then_
-_and-then_ : {v w : Verdict} → Numbered v → Numbered w → Numbered (v then w)
-unfolding _then_
-_and-then_ {v = accepted} a b = b
-_and-then_ {v = refused question p} a b = a
+number-0-is-accepted : (qs : List Question) → AllNumbered qs → (v : Verdict) → DecidedBy qs v → number v ≡ 0 → v ≡ accepted
+unfolding number
+number-0-is-accepted qs h accepted d e = refl
+number-0-is-accepted qs h (refused question p) d e =
+    let above : 1 ≤ question = first-no-numbered qs h question p (d .refused-exactly question p .0 refl) in
+    absurd (omega arith)
 
-all-of : (m : ℕ) (f : ℕ → Verdict) → ((j : ℕ) → Numbered (f j)) → Numbered (first-to m f)
-unfolding first-to up-to number
-all-of zero f h = record { only-accepted = λ e. refl }
-all-of (suc m) f h = all-of m f h and-then h (suc m)
+-- questions 1 to 9, and what is asked after them
+triangle-numbered : (t : Triangle) (Lengths : Type 0) (later : List Question) → AllNumbered later → AllNumbered (triangle-questions t Lengths ++ later)
+triangle-numbered t Lengths later h =
+    let above : (m : ℕ) (i k : ℕ) → 1 ≤ suc m = λ m i k. omega arith in
+    (above 0, (above 1, (above 2, (above 3, (above 4, (above 4, (above 5, (above 6, (above 7, (above 8, h))))))))))
 
-cells : (m question : ℕ) (test : ℕ → ℕ → Bool) → Numbered (each-cell m (suc question) test)
-unfolding each-cell each-in-row
-cells m question test = all-of m _ (λ i. all-of _ _ (λ k. asked (test i k) question _))
+pub number-0-of-call : {t : Triangle} {f r : ℕ} {v : Verdict} {future reserves : List ℤ} → Demand-1 t f r v future reserves → number v ≡ 0 → v ≡ accepted
+number-0-of-call {t} {f} {r} {v} d = number-0-is-accepted _ (triangle-numbered t (LengthsRight t f r) [] tt) v (d .decided)
 
-pub number-0 : (t : Triangle) (right : Bool) → number (questions t right) ≡ 0 → questions t right ≡ accepted
-unfolding questions observed-questions input-questions list-questions question-1 question-2 question-3 question-4 question-5 question-6 question-7 question-8 question-9 question-9-of-year
-number-0 t right = all .only-accepted
-  where
-    all : Numbered (questions t right)
-    all =
-        ((asked _ 0 _ and-then asked _ 1 _ and-then asked _ 2 _
-        and-then (cells _ 3 _ and-then (cells _ 4 _ and-then cells _ 4 _) and-then cells _ 5 _ and-then cells _ 6 _))
-        and-then all-of _ _ (λ k. asked _ 7 _))
-        and-then all-of _ _ (λ i. all-of _ _ (λ j. asked _ 8 _))
+pub number-0-of-cell : {t : Triangle} {i k : ℤ} {c : CellAnswer} → Demand-1-of-cell t i k c → number (c .verdict) ≡ 0 → c .verdict ≡ accepted
+number-0-of-cell {t} {i} {k} {c} d =
+    number-0-is-accepted (cell-questions t i k) (triangle-numbered t (InputLengthsRight t) (unseen-question (t .years) i k ∷ []) ((λ i k. omega arith), tt)) (c .verdict) (d .decided)

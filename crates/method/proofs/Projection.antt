@@ -1,20 +1,21 @@
 -- The rule of document 01: that a year leaves no outstanding negative, that it keeps allowances, and when the last year leaves nothing.
 use mathlib.Core.Path.{_≡_, refl, ap, _∙_, subst}
-use Prim.Native.Nat.{ℕ, suc, _-_, _≤_, _<_}
+use Prim.Native.Nat.{ℕ, suc, _-_, _≤_}
 use native.Mathlib.Omega.{arith}
 use lib.IntN.{ℤ, pos, _+ℤ_, _-ℤ_, _*ℤ_, +ℤ-idl, *ℤ-zero}
 use lib.Signed.{_≤ℤ_, _<ℤ_}
-use Rattle.integers.specs.Fraction.{Fraction, size, _over_, _⊕_, _⊖_, _⊗_, _≈_, Within}
-use Rattle.integers.proofs.RingSolver.{_:+_, _:-_, _:*_, _:=_, ring}
-use Rattle.integers.proofs.Order.{*ℤ-positive, size-of-nonneg}
+use Rattle.integers.specs.Fraction.{Fraction, size, _over_, _⊕_, _⊗_, Within}
+use Rattle.integers.proofs.Order.{size-of-nonneg}
 use Rattle.integers.proofs.Rounding.{Nearest, half-up-nearest}
 use Rattle.integers.proofs.Nearness.{nearest-within, balance-within, balance-nonneg, balance-zero, share-within}
-use Rattle.integers.proofs.SameNumber.{same, within-same}
+use Rattle.integers.proofs.SameNumber.{same, within-same, share-by-factor-apart}
 use Rattle.method.specs.Counting.{up-to, sum-to}
 use Rattle.method.specs.Triangle.{Triangle, n, w}
 use Rattle.method.specs.Outstandings.{Sums, R, sums}
+use Rattle.method.specs.SumLimits.{SumsInRange}
 use Rattle.method.specs.ProjectedYear.{share, next-year, unrounded-year, allowed-year}
 use Rattle.method.specs.RunOff.{O, movement, method}
+use Rattle.method.specs.AnswerPlaces.{Projected}
 use Rattle.method.proofs.QuestionFacts.{Accepted}
 use Rattle.method.proofs.SumBounds.{factor-is, sums-in-range}
 use Rattle.method.proofs.KeptAllowances.{KeptYear, Keeps}
@@ -58,33 +59,19 @@ module _ (r : ℤ) (s : Sums) (h : pos 0 <ℤ s .D) where
         (balance-within r (s .P) (s .Q) (s .D) (share r (s .P) (s .D)) (share r (s .Q) (s .D)) h
         (share-nearest r (s .P) (s .D) h) (share-nearest r (s .Q) (s .D) h)))
 
-    -- u by the outstanding factor is u less its payment plus its adjustment
-    factor-apart : u ⊗ φ over s .D ≈ u ⊖ u ⊗ s .P over s .D ⊕ u ⊗ s .Q over s .D
-    unfolding _⊕_ _⊖_ _⊗_
-    factor-apart = record {
-      left-positive = uD;
-      right-positive = *ℤ-positive _ _ (*ℤ-positive _ _ (k .figure-positive) uD) uD;
-      across = ring 5
-          (λ m d P Q D. m :* (D :- P :+ Q) :* (d :* (d :* D) :* (d :* D)) := ((m :* (d :* D) :- m :* P :* d) :* (d :* D) :+ m :* Q :* (d :* (d :* D))) :* (d :* D)) tt
-          (u .numerator) (u .denominator) (s .P) (s .Q) (s .D);
-    }
-      where
-        uD : pos 0 <ℤ (u .denominator *ℤ s .D)
-        uD = *ℤ-positive (u .denominator) (s .D) (k .figure-positive) h
-
     pub year-kept : pos 0 ≤ℤ (s .D -ℤ s .P +ℤ s .Q) → KeptYear (next-year r s) (unrounded-year u s) (allowed-year a s)
     unfolding next-year unrounded-year allowed-year
     year-kept f = record {
       payment = rounded-share (s .P);
       adjustment = rounded-share (s .Q);
-      outstanding = within-same factor-apart (same (by-the-factor f .allowance-positive)) (by-the-factor f);
+      outstanding = within-same (share-by-factor-apart u (s .P) (s .Q) (s .D) (k .figure-positive) h) (same (by-the-factor f .allowance-positive)) (by-the-factor f);
     }
 
 -- ---- An accepted triangle
 
 module _ (t : Triangle) (ok : Accepted t) where
   -- where the oldest year's last outstanding is 0, so is the last outstanding factor
-  last-factor-zero : (k : ℕ) → suc k ≡ n t → R t 1 (n t) ≡ pos 0 → sums t k .D -ℤ sums t k .P +ℤ sums t k .Q ≡ pos 0
+  pub last-factor-zero : (k : ℕ) → suc k ≡ n t → R t 1 (n t) ≡ pos 0 → sums t k .D -ℤ sums t k .P +ℤ sums t k .Q ≡ pos 0
   unfolding up-to
   last-factor-zero k e z =
       let s : n t - k ≡ 1 = omega arith in
@@ -95,14 +82,17 @@ module _ (t : Triangle) (ok : Accepted t) where
       ∙ ap (λ x. w t 1 k *ℤ x) z
       ∙ *ℤ-zero (w t 1 k)
 
+  -- the sums by which a cell is projected
+  in-range : (i k : ℕ) → Projected (n t) i k → SumsInRange (sums t k)
+  in-range i k p =
+      let first : 1 ≤ k = omega (arith, p .row, p .after) in
+      sums-in-range t (ok .observed) k first (p .year) (ok .exposure k first (p .year))
+
   pub method-keeps : Keeps (method t)
   unfolding movement next-year
   method-keeps = record {
     some-year = omega (arith, ok .observed .years .fewest);
     moves = λ i k r. refl;
-    year = λ i k p r u a b.
-        year-kept r (sums t k) (ok .exposure k (omega (arith, p .row, p .after)) (p .year)) u a b
-        (sums-in-range t (ok .observed) k (omega (arith, p .row, p .after)) (p .year) .factor-nonneg);
-    closes = λ z i k p e.
-        next-zero (O (method t) i k) (sums t k) (ok .exposure k (omega (arith, p .row, p .after)) (p .year)) (last-factor-zero k e z);
+    year = λ i k p r u a b. year-kept r (sums t k) (in-range i k p .D-positive) u a b (in-range i k p .factor-nonneg);
+    closes = λ z i k p e. next-zero (O (method t) i k) (sums t k) (in-range i k p .D-positive) (last-factor-zero k e z);
   }

@@ -1,66 +1,74 @@
 -- Demand 1, proved for every call. Assumes nothing.
+-- Each row of the table is what one question's verdict tells; the rows are then put together in their order.
 use mathlib.Core.Path.{_≡_, refl, sym, _∙_, subst}
 use mathlib.Core.Bool.{Bool}
 use mathlib.Core.List.{List, _++_}
-use Prim.Native.Nat.{ℕ, suc, _+_, _-_}
+use Prim.Native.Nat.{ℕ, suc, _+_, _-_, _≤_, _<_}
+use native.Mathlib.Decide.{decLe}
 use native.Mathlib.Omega.{arith}
 use lib.IntN.{ℤ, pos, _+ℤ_, _-ℤ_}
 use lib.Signed.{_≤ℤ_, _<ℤ_}
+use Rattle.method.specs.Verdicts.{Verdict, _then_, each-cell}
 use Rattle.method.specs.Triangle.{Triangle, n, Y, S, T, w}
+use Rattle.method.specs.Tests.{years-in-range, cut-in-range, amount-right}
 use Rattle.method.specs.Outstandings.{R, sums}
 use Rattle.method.specs.RunOff.{movement, year-before, method}
-use Rattle.method.specs.Questions.{Verdict, _then_, each-cell, years-in-range, cut-in-range, lengths-right, weight-in-range, amount-right, known, outstanding-in-range, unweighted, weight-allowed, exposure-positive, figures-in-range, question-1, question-2, question-3, question-4, question-5, question-6, question-7, question-8, question-9-of-year, question-9, list-questions, input-questions, observed-questions, questions, cell-unseen, accident-year-in-range, question-10}
-use Rattle.method.specs.Answers.{answer, both-lengths-right, cell-verdict, row-verdict}
-use Rattle.method.specs.Demand1.{Question, From-to, Amount-right, Figures-right, triangle-questions, Demand-1, Demand-1-of-every-call}
-use Rattle.method.proofs.WholeAnswers.{filled-verdict}
+use Rattle.method.specs.Questions.{lengths-right, figures-in-range, question-1, question-2, question-3, question-4, question-5, question-6, question-7, question-8, question-9-of-year, question-9, list-questions, input-questions, observed-questions, questions, cell-unseen, accident-year-in-range, question-10}
+use Rattle.method.specs.Answers.{answer, cell-verdict, single-cell, both-lengths-right, row-verdict}
+use Rattle.method.specs.Demand1.{Question, From-to, Figures-right, question, triangle-questions, DecidedBy, Demand-1-of-every-call}
+use Rattle.method.proofs.WholeAnswers.{filled-verdict, filled-zeros, cell-figures-verdict, cell-figures-zeros}
 use Rattle.method.proofs.FirstRefusal.{then-assoc, then-none}
-use Rattle.method.proofs.QuestionFacts.{says-input-lengths, says-lengths, says-figures}
-use Rattle.method.proofs.Tests.{Says, says-≤, says-<, says-leb, says-eqb, says-zero, says-and, says-from-to, says-unless, says-map}
-use Rattle.method.proofs.AskedQuestions.{told, told-where, once, row, in-own-row, rows, cells, AnswersAll, none, last-asked, _and-then_, decided}
+use Rattle.method.proofs.QuestionFacts.{says-input-lengths, says-lengths}
+use Rattle.method.proofs.Tests.{Says, says-≤, says-<, says-eqb, says-and, says-from-to, says-map, says-weight, says-amount, says-outstanding, says-weight-allowed, says-figures}
+use Rattle.method.proofs.AskedQuestions.{told, told-where, Answers, asked-once, OneOf, asked-in-row, in-own-row, asked-row-by-row, asked-cell-by-cell, AnswersAll, none, last-asked, _and-then_, decided}
 
--- ---- What the tests of a triangle want
+-- ---- Questions 1 to 9, and what is asked after them
 
 module _ (t : Triangle) where
-  says-amount : (amount : ℕ → ℕ → ℤ) (i k : ℕ) → Says (amount-right t amount i k) (Amount-right t amount i k)
-  unfolding amount-right
-  says-amount amount i k = says-and (says-from-to _ _ (amount i k)) (says-unless (says-leb (i + k) (Y t)) (says-zero (amount i k)))
-
-  figures-of : (i k : ℕ) → Says (figures-in-range (movement (method t) i k)) (Figures-right t i (suc k))
-  figures-of i k =
+  -- question 9 as it is asked in row i, at the year after k
+  says-figures-of : (i k : ℕ) → Says (figures-in-range (movement (method t) i k)) (Figures-right (movement (method t) i (suc k - 1)))
+  says-figures-of i k =
       let e : k ≡ suc k - 1 = omega arith in
-      subst (λ (x : ℕ). Says (figures-in-range (movement (method t) i x)) (Figures-right t i (suc k))) (sym e) (says-figures (movement (method t) i (suc k - 1)))
-
-  -- ---- Questions 1 to 9, and what is asked after them
+      subst (λ (x : ℕ). Says (figures-in-range (movement (method t) i x)) (Figures-right (movement (method t) i (suc k - 1)))) (sym e)
+      (says-figures (movement (method t) i (suc k - 1)))
 
   in-order : (right : Bool) (later : Verdict) → (questions t right then later)
       ≡ (question-1 (t .years) then question-2 (t .years) (t .cut) then question-3 right
-      then question-4 t then each-cell (n t) 5 (amount-right t (S t)) then each-cell (n t) 5 (amount-right t (T t))
+      then question-4 t then each-cell (n t) 5 (λ i k. amount-right (Y t) i k (S t i k)) then each-cell (n t) 5 (λ i k. amount-right (Y t) i k (T t i k))
       then question-6 t then question-7 t then question-8 t then question-9 t then later)
   unfolding questions observed-questions input-questions list-questions question-5
   in-order right later = simp then-assoc
 
-  answered : {right : Bool} {Lengths : Type 0} {later : Verdict} {qs : List Question} → Says right Lengths → AnswersAll later qs
-      → AnswersAll (questions t right then later) (triangle-questions t Lengths ++ qs)
-  unfolding question-1 years-in-range question-2 cut-in-range question-3 question-4 weight-in-range question-6 outstanding-in-range known question-7 weight-allowed unweighted question-8 exposure-positive question-9 question-9-of-year
-  answered {right} {Lengths} {later} {qs} lengths rest = subst (λ (v : Verdict). AnswersAll v (triangle-questions t Lengths ++ qs)) (sym (in-order right later)) (
-      once (says-from-to (pos 2) (pos 32) (t .years))
-      and-then once (says-from-to (pos 1) (t .years -ℤ pos 1) (t .cut))
-      and-then once lengths
-      and-then cells _ (n t - 1) (weight-in-range t) (λ i k x. (x .0, x .1, omega (arith, x .2)))
-      (λ i k x. told (x .0, x .1, omega (arith, x .0, x .1, x .2)) (says-from-to (pos 0) (pos 100) (w t i k)))
-      and-then cells _ (n t) (amount-right t (S t)) (λ i k x. x) (λ i k x. told x (says-amount (S t) i k))
-      and-then cells _ (n t) (amount-right t (T t)) (λ i k x. x) (λ i k x. told x (says-amount (T t) i k))
-      and-then cells _ (n t) (outstanding-in-range t) (λ i k x. x .0)
-      (λ i k x. told-where x (says-leb (Y t) (i + k)) (says-from-to (pos 0) (pos 1_000_000_000) (R t i k)))
-      and-then cells _ (n t - 1) (weight-allowed t) (λ i k x. (x .0 .0, x .0 .1, omega (arith, x .0 .2)))
-      (λ i k x. told-where (x .0, x .1, omega (arith, x .0, x .1, x .2)) (says-leb (i + k) (Y t)) (says-zero (w t i k)))
-      and-then row _ 0 (n t - 1) (λ j. j) (exposure-positive t) (λ a k x. (x .0, record { j = k; first = x .1; last = x .2; is = refl }))
-      (λ j j′ l. l) (λ j p l. told (refl, p, l) (says-< (pos 0) (sums t j .D)))
-      and-then (rows _ (n t) (question-9-of-year t) (λ i k x. (omega (arith, x .1, x .2), x .0))
-      (λ i p l. row _ i (i - 1) (λ j. suc (year-before (method t) i j)) (λ j. figures-in-range (movement (method t) i (year-before (method t) i j)))
-      (λ a k x. (x .0, let (c, d, e) = x .1 in record { j = i + k - (n t + 1); first = omega (arith, x .0, e); last = omega (arith, x .0, d, l); is = omega (arith, x .0, e, l) }))
+  -- question 9: row by row, and in row i the years after the last observed one
+  question-9-answers : Answers (question-9 t) (question 9 (λ i k. (i ≤ n t) × (k ≤ n t) × (n t + 1 < i + k)) (λ i k. Figures-right (movement (method t) i (k - 1))))
+  unfolding question-9 question-9-of-year
+  question-9-answers =
+      asked-row-by-row _ (n t) (question-9-of-year t) (λ i k x. (omega (arith, x .1, x .2), x .0))
+      (λ i p l. asked-in-row _ i (i - 1) (λ j. suc (year-before (method t) i j)) (λ j. figures-in-range (movement (method t) i (year-before (method t) i j)))
+      (λ a k x. (x .0, projected-year i k l x))
       (λ j j′ h. omega arith)
-      (λ j g h. in-own-row (told (l, omega (arith, l), omega (arith, l)) (figures-of i (year-before (method t) i j))))))
+      (λ j g h. in-own-row (told (l, omega (arith, l), omega (arith, l)) (says-figures-of i (year-before (method t) i j)))))
+    where
+      projected-year : (i k : ℕ) → i ≤ n t → {a : ℕ} → (a ≡ i) × ((a ≤ n t) × (k ≤ n t) × (n t + 1 < a + k)) → OneOf (i - 1) (λ j. suc (year-before (method t) i j)) k
+      projected-year i k l (s, (c, d, e)) = record { j = i + k - (n t + 1); first = omega (arith, s, e); last = omega (arith, s, d, l); is = omega (arith, s, e, l) }
+
+  asked-in-order : {right : Bool} {Lengths : Type 0} {later : Verdict} {qs : List Question} → Says right Lengths → AnswersAll later qs
+      → AnswersAll (questions t right then later) (triangle-questions t Lengths ++ qs)
+  unfolding question-1 years-in-range question-2 cut-in-range question-3 question-4 question-6 question-7 question-8
+  asked-in-order {right} {Lengths} {later} {qs} lengths rest = subst (λ (v : Verdict). AnswersAll v (triangle-questions t Lengths ++ qs)) (sym (in-order right later)) (
+      asked-once (says-from-to (pos 2) (pos 32) (t .years))
+      and-then asked-once (says-from-to (pos 1) (t .years -ℤ pos 1) (t .cut))
+      and-then asked-once lengths
+      and-then asked-cell-by-cell 4 (n t - 1) _ (λ i k x. (x .0, x .1, omega (arith, x .2)))
+      (λ i k x. told (x .0, x .1, omega (arith, x .0, x .1, x .2)) (says-weight (w t i k)))
+      and-then asked-cell-by-cell 5 (n t) _ (λ i k x. x) (λ i k x. told x (says-amount (Y t) i k (S t i k)))
+      and-then asked-cell-by-cell 5 (n t) _ (λ i k x. x) (λ i k x. told x (says-amount (Y t) i k (T t i k)))
+      and-then asked-cell-by-cell 6 (n t) _ (λ i k x. x .0) (λ i k x. told-where x (decLe (Y t) (i + k)) (says-outstanding (Y t) i k (R t i k)))
+      and-then asked-cell-by-cell 7 (n t - 1) _ (λ i k x. (x .0 .0, x .0 .1, omega (arith, x .0 .2)))
+      (λ i k x. told-where (x .0, x .1, omega (arith, x .0, x .1, x .2)) (decLe (i + k) (Y t)) (says-weight-allowed (Y t) i k (w t i k)))
+      and-then asked-in-row _ 0 (n t - 1) (λ j. j) _ (λ a k x. (x .0, record { j = k; first = x .1; last = x .2; is = refl }))
+      (λ j j′ l. l) (λ j p l. told (refl, p, l) (says-< (pos 0) (sums t j .D)))
+      and-then question-9-answers
       and-then rest)
 
 -- ---- The calls
@@ -72,14 +80,24 @@ says-unseen years i k =
     (says-and (says-and (says-from-to (pos 2) years i) (says-≤ k years)) (says-< (years +ℤ pos 1) (i +ℤ k)))
 
 pub demand-1 : Demand-1-of-every-call
-unfolding answer cell-verdict row-verdict both-lengths-right question-1 years-in-range question-3 question-10 accident-year-in-range
+unfolding answer single-cell cell-verdict row-verdict both-lengths-right question-1 years-in-range question-3 question-10 accident-year-in-range
 demand-1 = record {
   both-lists = λ t f r.
       let v : Verdict = questions t (lengths-right t f r) in
-      subst (Demand-1 t f r) (then-none v ∙ sym (filled-verdict (method t) f r v)) (decided (answered t (says-lengths t f r) none));
-  single-cell = λ t i k. decided (answered t (says-input-lengths t) (last-asked (once (says-unseen (t .years) i k))));
-  row = λ years payment-list adjustment-list i. decided
-      (once (says-from-to (pos 2) (pos 32) years)
-      and-then once (says-and (says-eqb _ _) (says-eqb _ _))
-      and-then last-asked (once (says-from-to (pos 1) years i)));
+      record {
+        decided = decided-as (then-none v ∙ sym (filled-verdict (method t) f r v)) (asked-in-order t (says-lengths t f r) none);
+        zeros = filled-zeros (method t) f r v;
+      };
+  cell = λ t i k. record {
+    decided = decided-as (sym (cell-figures-verdict t i k (cell-verdict t i k)))
+        (asked-in-order t (says-input-lengths t) (last-asked (asked-once (says-unseen (t .years) i k))));
+    zeros = cell-figures-zeros t i k (cell-verdict t i k);
+  };
+  row = λ years payment-list adjustment-list i. decided-as refl
+      (asked-once (says-from-to (pos 2) (pos 32) years)
+      and-then asked-once (says-and (says-eqb _ _) (says-eqb _ _))
+      and-then last-asked (asked-once (says-from-to (pos 1) years i)));
 }
+  where
+    decided-as : {v x : Verdict} {qs : List Question} → v ≡ x → AnswersAll v qs → DecidedBy qs x
+    decided-as {v} {x} {qs} e a = subst (DecidedBy qs) e (decided a)

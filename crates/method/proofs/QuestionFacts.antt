@@ -1,11 +1,10 @@
 -- What each question leaves when it accepts, as facts on the triangle, and all of it for an accepted triangle.
 use mathlib.Core.Path.{_≡_, refl, subst}
-use mathlib.Core.Bool.{Bool, true, not, _&&_, _||_}
+use mathlib.Core.Bool.{Bool, true, _&&_}
 use Prim.Native.Nat.{ℕ, suc, _+_, _-_, _≤_, _<_}
 use native.Mathlib.Omega.{arith}
-use lib.Dec.{leb, leb→le}
-use borrow.Author.Tests.{le-leb}
-use lib.IntN.{ℤ, pos, negsuc, negℤ, _+ℤ_, _-ℤ_, natAbs}
+use lib.Dec.{leb→le}
+use lib.IntN.{ℤ, pos, negsuc, _+ℤ_, _-ℤ_, natAbs}
 use lib.ListN.{length}
 use lib.Signed.{leZ, ltZ, _≤ℤ_, _<ℤ_, leZ-yes, ltZ-yes}
 use Rattle.integers.specs.Fraction.{size}
@@ -17,10 +16,13 @@ use Rattle.method.specs.Triangle.{Triangle, n, Y, S, T, w, amounts-lengt
 use Rattle.method.specs.Outstandings.{R, sums}
 use Rattle.method.specs.ProjectedYear.{Movement}
 use Rattle.method.specs.RunOff.{movement, year-before, method}
-use Rattle.method.specs.Questions.{accepted, at, nowhere, ask, each-cell, from-to, is-zero, years-in-range, cut-in-range, input-lengths-right, lengths-right, weight-in-range, amount-right, known, outstanding-in-range, unweighted, weight-allowed, exposure-positive, figures-in-range, question-1, question-2, question-3, question-4, question-5, question-6, question-7, question-8, question-9-of-year, question-9, list-questions, input-questions, observed-questions, questions, cell-unseen}
-use Rattle.method.specs.Demand1.{InputLengthsRight, LengthsRight, Figure-right}
-use Rattle.method.specs.Claim.{Projected}
-use Rattle.method.proofs.Tests.{is-true, and-true, unless-true, from-to-true, is-zero-true, Says, says-≤, says-eqb, says-map, says-and}
+use Rattle.method.specs.Verdicts.{accepted, at, nowhere, ask, each-cell}
+use Rattle.method.specs.Tests.{from-to, weight-in-range, amount-right, outstanding-in-range, weight-allowed}
+use Rattle.method.specs.Tests.{years-in-range, cut-in-range}
+use Rattle.method.specs.Questions.{input-lengths-right, lengths-right, figures-in-range, question-1, question-2, question-3, question-4, question-5, question-6, question-7, question-8, question-9-of-year, question-9, list-questions, input-questions, observed-questions, questions, cell-unseen}
+use Rattle.method.specs.Demand1.{InputLengthsRight, LengthsRight}
+use Rattle.method.specs.AnswerPlaces.{Projected}
+use Rattle.method.proofs.Tests.{is-true, and-true, from-to-true, Says, says-<, says-eqb, says-map, says-and, says-weight, says-amount, says-outstanding, says-weight-allowed, says-figures}
 use Rattle.method.proofs.FirstRefusal.{ask-accepted, then-accepted, first-accepted, each-cell-passed}
 
 -- ---- What questions 1 to 3 leave
@@ -90,15 +92,12 @@ says-lengths t f r =
 -- the amount x of cell (i, k): within the limit, and 0 where missing
 pub record AmountRight (cut i k : ℕ) (x : ℤ) : Type 0 where
   pub in-range : natAbs x ≤ natAbs greatest-amount
-  pub zero-where-missing : i + k ≤ cut → x ≡ pos 0
+  pub zero-up-to-cut : i + k ≤ cut → x ≡ pos 0
 
-pub amount-right-true : (cut i k : ℕ) (x : ℤ) → (from-to (negℤ greatest-amount) greatest-amount x && (not (leb (i + k) cut) || is-zero x)) ≡ true → AmountRight cut i k x
+pub amount-right-true : (cut i k : ℕ) (x : ℤ) → amount-right cut i k x ≡ true → AmountRight cut i k x
 amount-right-true cut i k x e =
-    let both = and-true (from-to (negℤ greatest-amount) greatest-amount x) (not (leb (i + k) cut) || is-zero x) e in
-    record {
-      in-range = natAbs-≤ x (natAbs greatest-amount) .1 (from-to-true (negℤ greatest-amount) greatest-amount x (both .0));
-      zero-where-missing = λ l. is-zero-true x (unless-true (leb (i + k) cut) (is-zero x) (both .1) (le-leb (i + k) cut l));
-    }
+    let (within, zero) = says-amount cut i k x .sound e in
+    record { in-range = natAbs-≤ x (natAbs greatest-amount) .1 within; zero-up-to-cut = zero }
 
 -- the figures of a projected year within the limit
 pub record FiguresInRange (m : Movement) : Type 0 where
@@ -106,26 +105,19 @@ pub record FiguresInRange (m : Movement) : Type 0 where
   pub adjustment : size (m .adjustment) ≤ℤ greatest-figure
   pub outstanding : size (m .outstanding) ≤ℤ greatest-figure
 
-pub says-figures : (m : Movement) → Says (figures-in-range m) (Figure-right (m .payment) × Figure-right (m .adjustment) × Figure-right (m .outstanding))
-unfolding figures-in-range
-says-figures m =
-    says-map (λ h. (h .0 .0, h .0 .1, h .1)) (λ h. ((h .0, h .1), h .2))
-    (says-and (says-and (says-≤ (size (m .payment)) greatest-figure) (says-≤ (size (m .adjustment)) greatest-figure)) (says-≤ (size (m .outstanding)) greatest-figure))
-
 pub figures-in-range-true : (m : Movement) → figures-in-range m ≡ true → FiguresInRange m
 figures-in-range-true m e = let (p, a, o) = says-figures m .sound e in record { payment = p; adjustment = a; outstanding = o }
 
 module _ (t : Triangle) where
   pub weights-in-range : question-4 t ≡ accepted → (i k : ℕ) → 1 ≤ i → 1 ≤ k → i + k ≤ n t
       → (pos 0 ≤ℤ w t i k) × (w t i k ≤ℤ greatest-weight)
-  unfolding question-4 weight-in-range
-  weights-in-range e i k p q h =
-      from-to-true (pos 0) greatest-weight (w t i k) (each-cell-passed (n t - 1) 4 (weight-in-range t) e i k p q (omega arith))
+  unfolding question-4
+  weights-in-range e i k p q h = says-weight (w t i k) .sound (each-cell-passed (n t - 1) 4 (λ i k. weight-in-range (w t i k)) e i k p q (omega arith))
 
-  amounts-right : (amount : ℕ → ℕ → ℤ) → each-cell (n t) 5 (amount-right t amount) ≡ accepted
+  amounts-right : (amount : ℕ → ℕ → ℤ) → each-cell (n t) 5 (λ i k. amount-right (Y t) i k (amount i k)) ≡ accepted
       → (i k : ℕ) → 1 ≤ i → 1 ≤ k → i + k ≤ n t + 1 → AmountRight (Y t) i k (amount i k)
-  unfolding amount-right
-  amounts-right amount e i k p q h = amount-right-true (Y t) i k (amount i k) (each-cell-passed (n t) 5 (amount-right t amount) e i k p q h)
+  amounts-right amount e i k p q h =
+      amount-right-true (Y t) i k (amount i k) (each-cell-passed (n t) 5 (λ i k. amount-right (Y t) i k (amount i k)) e i k p q h)
 
   pub payments-right : question-5 t ≡ accepted → (i k : ℕ) → 1 ≤ i → 1 ≤ k → i + k ≤ n t + 1 → AmountRight (Y t) i k (S t i k)
   unfolding question-5
@@ -137,24 +129,21 @@ module _ (t : Triangle) where
 
   pub outstandings-in-range : question-6 t ≡ accepted → (i k : ℕ) → 1 ≤ i → 1 ≤ k → i + k ≤ n t + 1 → Y t ≤ i + k
       → (pos 0 ≤ℤ R t i k) × (R t i k ≤ℤ greatest-outstanding)
-  unfolding question-6 outstanding-in-range known
-  outstandings-in-range e i k p q h l =
-      let passed : outstanding-in-range t i k ≡ true = each-cell-passed (n t) 6 (outstanding-in-range t) e i k p q h in
-      from-to-true (pos 0) greatest-outstanding (R t i k)
-      (unless-true (known t i k) (from-to (pos 0) greatest-outstanding (R t i k)) passed (le-leb (Y t) (i + k) l))
+  unfolding question-6
+  outstandings-in-range e i k p q h =
+      says-outstanding (Y t) i k (R t i k) .sound (each-cell-passed (n t) 6 (λ i k. outstanding-in-range (Y t) i k (R t i k)) e i k p q h)
 
   pub weights-allowed : question-7 t ≡ accepted → (i k : ℕ) → 1 ≤ i → 1 ≤ k → i + k ≤ n t → i + k ≤ Y t → w t i k ≡ pos 0
-  unfolding question-7 weight-allowed unweighted
-  weights-allowed e i k p q h l =
-      let passed : weight-allowed t i k ≡ true = each-cell-passed (n t - 1) 7 (weight-allowed t) e i k p q (omega arith) in
-      is-zero-true (w t i k) (unless-true (unweighted t i k) (is-zero (w t i k)) passed (le-leb (i + k) (Y t) l))
+  unfolding question-7
+  weights-allowed e i k p q h =
+      says-weight-allowed (Y t) i k (w t i k) .sound (each-cell-passed (n t - 1) 7 (λ i k. weight-allowed (Y t) i k (w t i k)) e i k p q (omega arith))
 
   pub exposures-positive : question-8 t ≡ accepted → (k : ℕ) → 1 ≤ k → k < n t → pos 0 <ℤ sums t k .D
-  unfolding question-8 exposure-positive
+  unfolding question-8
   exposures-positive e k p q =
-      let asked : ask (exposure-positive t k) 8 (at 0 k) ≡ accepted =
-      first-accepted (n t - 1) (λ k. ask (exposure-positive t k) 8 (at 0 k)) e k p (omega arith) in
-      ltZ-yes (is-true (ask-accepted (exposure-positive t k) 8 (at 0 k) asked))
+      let asked : ask (ltZ (pos 0) (sums t k .D)) 8 (at 0 k) ≡ accepted =
+      first-accepted (n t - 1) (λ k. ask (ltZ (pos 0) (sums t k .D)) 8 (at 0 k)) e k p (omega arith) in
+      says-< (pos 0) (sums t k .D) .sound (ask-accepted (ltZ (pos 0) (sums t k .D)) 8 (at 0 k) asked)
 
   pub figures-allowed : question-9 t ≡ accepted → (i k : ℕ) → Projected (n t) i k → FiguresInRange (movement (method t) i k)
   unfolding question-9 question-9-of-year
@@ -188,9 +177,9 @@ pub record Accepted (t : Triangle) : Type 0 where
   pub figures : (i k : ℕ) → Projected (n t) i k → FiguresInRange (movement (method t) i k)
 
 -- question 3 was answered yes
-pub lists-right : (t : Triangle) (right : Bool) → input-questions t right ≡ accepted → right ≡ true
+pub question-3-said-yes : (t : Triangle) (right : Bool) → input-questions t right ≡ accepted → right ≡ true
 unfolding input-questions
-lists-right t right e =
+question-3-said-yes t right e =
     let (q₁, e₂) = then-accepted _ _ e in
     let (q₂, e₃) = then-accepted _ _ e₂ in
     lengths-accepted right (then-accepted _ _ e₃ .0)
@@ -209,7 +198,7 @@ observed-triangle t right lengths e =
     record {
       years = years;
       cut = cut-accepted (t .years) (t .cut) years q₂;
-      lengths = lengths (lists-right t right e);
+      lengths = lengths (question-3-said-yes t right e);
       weight = weights-in-range t q₄;
       payment = payments-right t q₅;
       adjustment = adjustments-right t q₅;

@@ -66,19 +66,19 @@ module _ (m : Method) (moves : Moves m) (i : ℕ) (h : i ≤ m .years) where
   unfolding movement
   movement-outstanding k = moves i k (O m i k)
 
-  outstanding-after : (j : ℕ) → j ≤ i - 1 → O m i (last-observed m i + j) ≡ first-outstanding m i -ℤ payments-to j +ℤ adjustments-to j
+  outstanding-by-movements : (j : ℕ) → j ≤ i - 1 → O m i (last-observed m i + j) ≡ first-outstanding m i -ℤ payments-to j +ℤ adjustments-to j
   unfolding payments-to adjustments-to up-to
-  outstanding-after zero l =
+  outstanding-by-movements zero l =
       ap (λ (x : ℕ). O m i x) (add-zero (last-observed m i)) ∙ O-observed m i (last-observed m i) (omega arith)
       ∙ ring 1 (λ x. x := x :- con (pos 0) :+ con (pos 0)) tt (first-outstanding m i)
-  outstanding-after (suc j) l =
+  outstanding-by-movements (suc j) l =
       let k : ℕ = year-before m i (suc j) in
       let s : last-observed m i + suc j ≡ suc k = omega arith in
       let u : k ≡ last-observed m i + j = omega arith in
       ap (λ (x : ℕ). O m i x) s
       ∙ O-projected m i k (omega arith)
       ∙ movement-outstanding k
-      ∙ ap (λ (x : ℤ). x -ℤ movement m i k .payment +ℤ movement m i k .adjustment) (ap (λ (x : ℕ). O m i x) u ∙ outstanding-after j (omega arith))
+      ∙ ap (λ (x : ℤ). x -ℤ movement m i k .payment +ℤ movement m i k .adjustment) (ap (λ (x : ℕ). O m i x) u ∙ outstanding-by-movements j (omega arith))
       ∙ ring 5 (λ x a b p q. x :- a :+ b :- p :+ q := x :- (a :+ p) :+ (b :+ q)) tt
       (first-outstanding m i) (payments-to j) (adjustments-to j) (movement m i k .payment) (movement m i k .adjustment)
 
@@ -87,4 +87,4 @@ unfolding incurred-reserve paid-reserve closing payments-to adjustments-to
 incurred-less-paid-is-closing m moves i p h =
     let e : last-observed m i + (i - 1) ≡ m .years = omega arith in
     ring 3 (λ x p a. x :+ a :- p := x :- p :+ a) tt (first-outstanding m i) (payments-to m moves i h (i - 1)) (adjustments-to m moves i h (i - 1))
-    ∙ sym (outstanding-after m moves i h (i - 1) (omega arith)) ∙ ap (λ (x : ℕ). O m i x) e
+    ∙ sym (outstanding-by-movements m moves i h (i - 1) (omega arith)) ∙ ap (λ (x : ℕ). O m i x) e

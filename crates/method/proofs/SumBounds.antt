@@ -5,21 +5,15 @@ use native.Mathlib.Nat.{le-trans, mul-le-mul-right}
 use native.Mathlib.Decide.{decLe}
 use native.Mathlib.Omega.{arith}
 use lib.IntN.{ℤ, pos, _+ℤ_, _-ℤ_, _*ℤ_, natAbs, zero-*ℤ}
-use lib.Signed.{_≤ℤ_, ≤ℤ-refl}
+use lib.Signed.{_≤ℤ_, _<ℤ_, ≤ℤ-refl}
 use Rattle.integers.proofs.Order.{*ℤ-nonneg, natAbs-in-range, natAbs-≤, natAbs-*ℤ-≤}
-use Rattle.method.specs.Limits.{most-ratios, greatest-weight, greatest-amount, greatest-outstanding, greatest-term, greatest-sum}
+use Rattle.method.specs.SumLimits.{greatest-term, greatest-sum, SumsInRange}
+use Rattle.method.specs.Limits.{most-ratios, greatest-weight, greatest-amount, greatest-outstanding}
 use Rattle.method.specs.Counting.{sum-to}
 use Rattle.method.specs.Triangle.{Triangle, n, Y, S, T, w}
-use Rattle.method.specs.Outstandings.{Sums, R, sums}
+use Rattle.method.specs.Outstandings.{R, sums}
 use Rattle.method.proofs.QuestionFacts.{Observed}
 use Rattle.method.proofs.Sums.{sum-nonneg, sum-natAbs, sums-combined}
-
--- the sums of a year as the projection takes them
-pub record SumsInRange (s : Sums) : Type 0 where
-  pub P-size : natAbs (s .P) ≤ greatest-sum
-  pub Q-size : natAbs (s .Q) ≤ greatest-sum
-  pub D-most : s .D ≤ℤ pos greatest-sum
-  pub factor-nonneg : pos 0 ≤ℤ (s .D -ℤ s .P +ℤ s .Q)
 
 -- a weight and an amount within their limits
 pub term-size : (weight amount : ℤ) → natAbs weight ≤ natAbs greatest-weight → natAbs amount ≤ natAbs greatest-amount → natAbs (weight *ℤ amount) ≤ greatest-term
@@ -70,11 +64,12 @@ module _ (t : Triangle) (ok : Observed t) where
     exposure-size : natAbs (sum-to (n t - k) (λ i. w t i k *ℤ R t i k)) ≤ greatest-sum
     exposure-size = few-terms (n t - k) (λ i. w t i k *ℤ R t i k) few (λ i a b. weighted-outstanding i k k a q (omega arith) (omega arith) (omega arith) .1)
 
-    pub sums-in-range : SumsInRange (sums t k)
+    pub sums-in-range : pos 0 <ℤ sums t k .D → SumsInRange (sums t k)
     unfolding sums
-    sums-in-range = record {
+    sums-in-range exposed = record {
       P-size = amounts-size (λ i. S t i (suc k)) (λ i a b. ok .payment i (suc k) a (omega arith) (omega arith) .in-range);
       Q-size = amounts-size (λ i. T t i (suc k)) (λ i a b. ok .adjustment i (suc k) a (omega arith) (omega arith) .in-range);
+      D-positive = exposed;
       D-most = natAbs-≤ (sum-to (n t - k) (λ i. w t i k *ℤ R t i k)) greatest-sum .0 exposure-size .1;
       factor-nonneg = subst (λ (x : ℤ). pos 0 ≤ℤ x) (sym (factor-is t k)) next-outstandings-nonneg;
     }

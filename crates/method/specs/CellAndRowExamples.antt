@@ -4,7 +4,7 @@ use mathlib.Core.List.{List, [], _∷_, map}
 use Prim.Native.Nat.{ℕ}
 use lib.IntN.{ℤ, pos}
 use Rattle.method.specs.Triangle.{Triangle}
-use Rattle.method.specs.Questions.{Verdict, number, place}
+use Rattle.method.specs.Verdicts.{Verdict, number, place}
 use Rattle.method.specs.Answers.{CellAnswer, single-cell, Amounts, payments, adjustments, row-verdict, row}
 use Rattle.method.specs.Examples.{minus, Refusal, refused-by, payments-1, adjustments-1, payments-4, adjustments-4, E4, E8}
 use Rattle.method.specs.OtherReadings.{least-64-bit, late-refusal}

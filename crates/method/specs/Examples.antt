@@ -9,7 +9,7 @@ use lib.ListN.{length, replicate, set}
 use Rattle.integers.specs.Fraction.{Fraction, size, _over_, _≈_}
 use Rattle.method.specs.Triangle.{Triangle, weights-length, future-length, reserves-length}
 use Rattle.method.specs.RunOff.{A, unrounded-movement, allowance, paid-allowance, incurred-allowance, method}
-use Rattle.method.specs.Questions.{number, place}
+use Rattle.method.specs.Verdicts.{number, place}
 use Rattle.method.specs.Answers.{Answer, answer}
 
 -- ---- How a row is written

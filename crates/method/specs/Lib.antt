@@ -1,14 +1,20 @@
 -- The meaning of document 01, in its order. Read from the top; no file below holds a proof.
 pub mod Limits
 pub mod Counting
+pub mod Verdicts
 pub mod Triangle
+pub mod Tests
 pub mod Outstandings
+pub mod SumLimits
 pub mod ProjectedYear
 pub mod RunOff
 pub mod Questions
 pub mod Answers
+pub mod AnswerPlaces
 pub mod Demand1
-pub mod Claim
+pub mod Demand2
+pub mod Demand3
+pub mod Theorem
 pub mod Examples
 pub mod OtherReadings
 pub mod CellAndRowExamples

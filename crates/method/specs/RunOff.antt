@@ -2,12 +2,11 @@
 use mathlib.Core.Bool.{true, false}
 use mathlib.Core.List.{List, [], _∷_}
 use Prim.Native.Nat.{ℕ, zero, suc, _+_, _-_}
-use lib.Dec.{leb}
 use lib.IntN.{ℤ, pos, _+ℤ_, _*ℤ_}
 use Rattle.integers.specs.Fraction.{Fraction, _over_, _⊕_}
 use Rattle.method.specs.Limits.{one-unit}
 use Rattle.method.specs.Counting.{sum-to, fractions-to, list-to}
-use Rattle.method.specs.Triangle.{Triangle, n}
+use Rattle.method.specs.Triangle.{Triangle, n, seen}
 use Rattle.method.specs.Outstandings.{R, sums}
 use Rattle.method.specs.ProjectedYear.{Year, Movement, figures, next-year, unrounded-year, allowed-year}
 
@@ -24,7 +23,7 @@ module _ (m : Method) where
   -- An account of a row: it is read off the observed outstanding where cell (i, k) is seen, and else is the outstanding of the year made from the year before.
   unfoldable pub account : {X : Type 0} → (ℤ → X) → (ℕ → ℕ → X → Year X) → ℕ → ℕ → X
   account first next i zero = first (m .observed i zero *ℤ one-unit)
-  account first next i (suc k) = elim (leb (i + suc k) (m .years + 1)) [
+  account first next i (suc k) = elim (seen (m .years) i (suc k)) [
     | true ↦ first (m .observed i (suc k) *ℤ one-unit)
     | false ↦ next i k (account first next i k) .outstanding
   ]

@@ -7,14 +7,14 @@ use native.Mathlib.Omega.{arith}
 use lib.IntN.{ℤ, pos}
 use lib.ListN.{length, List·getD-eq-default}
 use Rattle.method.specs.Triangle.{amounts-length, entry}
-use Rattle.method.specs.Questions.{accepted, each-cell}
+use Rattle.method.specs.Verdicts.{accepted, each-cell}
 use Rattle.method.proofs.FirstRefusal.{first-accepted}
 use Rattle.method.proofs.Positions.{entry-at}
 use Rattle.method.proofs.Rows.{part-length}
 use Rattle.cells.specs.declared.CellTest.the-variants.{AmountRight}
 use Rattle.cells.specs.Cells.{row-of-list, whole-list, row-part}
 use Rattle.cells.proofs.CellTests.{rows-of-list, row-as-part}
-use Rattle.outstandings.specs.Observed.{row-of-outstandings, outstandings-of-year, RowRight, AmountsRight}
+use Rattle.outstandings.specs.Observed.{row-of-outstandings, outstandings-of-year, RowAmountsRight, AmountsRight}
 
 module _ (n cut : ℕ) (payments adjustments openings : List ℤ) where
   pub outstandings-of-row : (r : ℕ) → outstandings-of-year n cut payments adjustments openings (r + 1)
@@ -34,7 +34,7 @@ module _ (n cut : ℕ) (payments adjustments openings : List ℤ) where
     no-opening : cut ≤ r + 1 → entry openings (suc r) ≡ pos 0
     no-opening h = entry-at openings r ∙ List·getD-eq-default openings (pos 0) (omega (arith, right .openings-length-right))
 
-    pub row-right : RowRight cut (r + 1) (entry openings (suc r)) (row-part n r payments) (row-part n r adjustments)
+    pub row-right : RowAmountsRight cut (r + 1) (entry openings (suc r)) (row-part n r payments) (row-part n r adjustments)
     row-right =
         let paid = part-length n r payments l (right .payments-length) in
         let adjusted = part-length n r adjustments l (right .adjustments-length) in

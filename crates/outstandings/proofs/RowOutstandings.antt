@@ -7,8 +7,6 @@ use Prim.Native.Nat.{ℕ, suc, _+_, _≤_, _<_}
 use native.Mathlib.Numerals.{add-one}
 use native.Mathlib.Decide.{decLe}
 use native.Mathlib.Omega.{arith}
-use lib.Dec.{leb}
-use borrow.Author.Tests.{le-leb}
 use lib.IntN.{ℤ, pos, _+ℤ_, _-ℤ_, natAbs}
 use lib.ListN.{length, getD}
 use mir.Syntax.{w64}
@@ -19,13 +17,14 @@ use Rattle.integers.proofs.LinearFacts.{integers, fits-by}
 use Rattle.integers.proofs.Order.{natAbs-parts, natAbs-in-range}
 use Rattle.method.specs.Limits.{greatest-outstanding}
 use Rattle.method.specs.Triangle.{entry}
-use Rattle.method.specs.Questions.{accepted, refused, at, from-to}
-use Rattle.method.proofs.Tests.{unless-true, from-to-true}
+use Rattle.method.specs.Verdicts.{accepted, refused, at}
+use Rattle.method.specs.Tests.{outstanding-in-range}
+use Rattle.method.proofs.Tests.{says-outstanding}
 use Rattle.method.proofs.QuestionFacts as facts
 use Rattle.method.proofs.FirstRefusal.{ask-yes, ask-no, ask-accepted, PassedSoFar, none-asked, next-accepted, next-refused, all-accepted, first-accepted}
 use Rattle.cells.specs.declared.CellTest.the-variants.{AmountRight}
 use Rattle.cells.specs.Cells.{cell-of-row, row-of-list}
-use Rattle.outstandings.specs.Observed.{in-range-where-known, row-outstanding, year-of-row, row-of-outstandings, Movable, RowRight}
+use Rattle.outstandings.specs.Observed.{row-outstanding, year-of-row, row-of-outstandings, Movable, RowAmountsRight}
 
 -- ---- What question 5 leaves of a row
 
@@ -61,7 +60,7 @@ pub record YearsPassed (cut i : ℕ) (opening : ℤ) (payments adjustments : Lis
   pub is : outstanding ≡ row-outstanding opening payments adjustments j
   pub in-range-or-unknown : (natAbs outstanding ≤ natAbs greatest-outstanding) ⊎ (i + j < cut)
 
-module _ (cut i : ℕ) (opening : ℤ) (payments adjustments : List ℤ) (right : RowRight cut i opening payments adjustments) where
+module _ (cut i : ℕ) (opening : ℤ) (payments adjustments : List ℤ) (right : RowAmountsRight cut i opening payments adjustments) where
   pub before-first-year : YearsPassed cut i opening payments adjustments opening 0
   unfolding row-outstanding
   before-first-year = record {
@@ -92,18 +91,18 @@ module _ (cut i : ℕ) (opening : ℤ) (payments adjustments : List ℤ) (right 
           go : (natAbs outstanding ≤ natAbs greatest-outstanding) ⊎ (i + j < cut)
               → (natAbs outstanding ≤ natAbs greatest-outstanding) ⊎ ((getD payments j (pos 0) ≡ pos 0) × (getD adjustments j (pos 0) ≡ pos 0))
           go (inl h) = inl h
-          go (inr h) = inr (paid .zero-where-missing (omega arith), adjusted .zero-where-missing (omega arith))
+          go (inr h) = inr (paid .zero-up-to-cut (omega arith), adjusted .zero-up-to-cut (omega arith))
 
       module _ (next : ℤ) (e : next ≡ outstanding -ℤ getD payments j (pos 0) +ℤ getD adjustments j (pos 0)) where
         next-is : next ≡ row-outstanding opening payments adjustments (j + 1)
         unfolding row-outstanding entry
         next-is = rw add-one (e ∙ ap (λ o. o -ℤ getD payments j (pos 0) +ℤ getD adjustments j (pos 0)) (s .is))
 
-        asked-of : (b : Bool) → in-range-where-known cut i (j + 1) next ≡ b
-            → in-range-where-known cut i (j + 1) (row-outstanding opening payments adjustments (j + 1)) ≡ b
-        asked-of b = subst (λ (x : ℤ). in-range-where-known cut i (j + 1) x ≡ b) next-is
+        asked-of : (b : Bool) → outstanding-in-range cut i (j + 1) next ≡ b
+            → outstanding-in-range cut i (j + 1) (row-outstanding opening payments adjustments (j + 1)) ≡ b
+        asked-of b = subst (λ (x : ℤ). outstanding-in-range cut i (j + 1) x ≡ b) next-is
 
-        pub next-year-passed : in-range-where-known cut i (j + 1) next ≡ true → YearsPassed cut i opening payments adjustments next (j + 1)
+        pub next-year-passed : outstanding-in-range cut i (j + 1) next ≡ true → YearsPassed cut i opening payments adjustments next (j + 1)
         unfolding year-of-row
         next-year-passed p = record {
           so-far = next-accepted (s .so-far) l (ask-yes _ 6 (at i (j + 1)) (asked-of true p));
@@ -112,13 +111,10 @@ module _ (cut i : ℕ) (opening : ℤ) (payments adjustments : List ℤ) (right 
         }
           where
             go : Dec (cut ≤ i + (j + 1)) → (natAbs next ≤ natAbs greatest-outstanding) ⊎ (i + (j + 1) < cut)
-            go (yes h) =
-                let range = from-to-true (pos 0) greatest-outstanding next
-                (unless-true (leb cut (i + (j + 1))) (from-to (pos 0) greatest-outstanding next) p (le-leb cut (i + (j + 1)) h)) in
-                inl (natAbs-in-range next range)
+            go (yes h) = inl (natAbs-in-range next (says-outstanding cut i (j + 1) next .sound p h))
             go (no h) = inr (omega arith)
 
-        pub next-year-refused : in-range-where-known cut i (j + 1) next ≡ false
+        pub next-year-refused : outstanding-in-range cut i (j + 1) next ≡ false
             → row-of-outstandings cut i opening payments adjustments ≡ refused 6 (at i (j + 1))
         unfolding year-of-row row-of-outstandings
         next-year-refused p = next-refused (s .so-far) l (ask-no _ 6 (at i (j + 1)) (asked-of false p))

@@ -1,21 +1,16 @@
 -- Question 6: what is asked of one row, and of all of them.
 use mathlib.Core.Path.{_≡_}
 use mathlib.Core.Logic.{_⊎_}
-use mathlib.Core.Bool.{Bool, not, _||_}
 use mathlib.Core.List.{List}
-use Prim.Native.Nat.{ℕ, zero, suc, _+_, _-_, _≤_}
-use lib.Dec.{leb}
+use Prim.Native.Nat.{ℕ, zero, suc, _-_, _≤_}
 use lib.IntN.{ℤ, pos, _+ℤ_, _-ℤ_, natAbs}
 use lib.ListN.{length}
 use Rattle.method.specs.Limits.{greatest-amount, greatest-outstanding, most-accident-years}
 use Rattle.method.specs.Triangle.{amounts-length, openings-length, entry}
-use Rattle.method.specs.Questions.{Verdict, accepted, at, ask, first-to, from-to}
+use Rattle.method.specs.Verdicts.{Verdict, accepted, at, ask, first-to}
+use Rattle.method.specs.Tests.{outstanding-in-range}
 use Rattle.cells.specs.declared.CellTest.the-variants.{AmountRight}
 use Rattle.cells.specs.Cells.{row-of-list, whole-list, row-part}
-
--- an outstanding is asked from its row's opening on
-abbrev pub in-range-where-known : ℕ → ℕ → ℕ → ℤ → Bool
-in-range-where-known cut i k outstanding = not (leb cut (i + k)) || from-to (pos 0) greatest-outstanding outstanding
 
 -- the outstanding of year k in a row that starts from the opening
 unfoldable pub row-outstanding : ℤ → List ℤ → List ℤ → ℕ → ℤ
@@ -26,7 +21,7 @@ row-outstanding opening payments adjustments (suc k) =
 -- what is asked of year k, and of the whole row, of accident year i
 unfoldable pub year-of-row : ℕ → ℕ → ℤ → List ℤ → List ℤ → ℕ → Verdict
 year-of-row cut i opening payments adjustments k =
-    ask (in-range-where-known cut i k (row-outstanding opening payments adjustments k)) 6 (at i k)
+    ask (outstanding-in-range cut i k (row-outstanding opening payments adjustments k)) 6 (at i k)
 
 unfoldable pub row-of-outstandings : ℕ → ℕ → ℤ → List ℤ → List ℤ → Verdict
 row-of-outstandings cut i opening payments adjustments = first-to (length payments) (year-of-row cut i opening payments adjustments)
@@ -46,7 +41,7 @@ pub record Movable (outstanding payment adjustment : ℤ) : Type 0 where
   pub in-range-or-unmoved : (natAbs outstanding ≤ natAbs greatest-outstanding) ⊎ ((payment ≡ pos 0) × (adjustment ≡ pos 0))
 
 -- a row that has passed question 5
-pub record RowRight (cut i : ℕ) (opening : ℤ) (payments adjustments : List ℤ) : Type 0 where
+pub record RowAmountsRight (cut i : ℕ) (opening : ℤ) (payments adjustments : List ℤ) : Type 0 where
   pub year-most : i ≤ most-accident-years
   pub few : length payments ≤ most-accident-years
   pub same-length : length adjustments ≡ length payments

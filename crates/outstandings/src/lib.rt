@@ -4,8 +4,9 @@ ghost use Prim.Native.Nat.{_+_, _≤_, suc};
 ghost use lib.IntN.{_+ℤ_, _-ℤ_};
 ghost use Rattle.method.specs.Limits.{most-accident-years};
 ghost use Rattle.method.specs.Triangle.{entry};
+ghost use Rattle.method.specs.Tests.{outstanding-in-range};
 ghost use Rattle.verdicts.specs.Verdicts.{verdict-of};
-ghost use Rattle.outstandings.specs.Observed.{AmountsRight, RowRight, in-range-where-known, row-of-outstandings, all-outstandings, Movable};
+ghost use Rattle.outstandings.specs.Observed.{AmountsRight, RowAmountsRight, row-of-outstandings, all-outstandings, Movable};
 use verdicts::limits::GREATEST_OUTSTANDING;
 use verdicts::limits::from_to;
 use verdicts::verdict::Verdict;
@@ -58,7 +59,7 @@ fn outstandings_in_row<'a>(
     payments: &'a [i64],
     adjustments: &'a [i64],
 ) -> Verdict
-    requires { ⌜ RowRight cut i opening (now payments) (now adjustments) ⌝ }
+    requires { ⌜ RowAmountsRight cut i opening (now payments) (now adjustments) ⌝ }
     ensures { λ r. ⌜ verdict-of r ≡ row-of-outstandings cut i opening (now (payments .entry)) (now (adjustments .entry)) ⌝ }
 {
     let mut outstanding = opening;
@@ -76,7 +77,7 @@ fn outstandings_in_row<'a>(
 // Whether the outstanding of cell (i, k) is in range, where it is known.
 fn outstanding_in_range(cut: usize, i: usize, k: usize, outstanding: i64) -> bool
     requires { ⌜ (i ≤ most-accident-years) × (k ≤ most-accident-years) ⌝ }
-    ensures { λ r. ⌜ r ≡ in-range-where-known cut i k outstanding ⌝ }
+    ensures { λ r. ⌜ r ≡ outstanding-in-range cut i k outstanding ⌝ }
 {
     !(cut <= i + k) | from_to(0, GREATEST_OUTSTANDING, outstanding)
 }

@@ -6,17 +6,18 @@ use native.Mathlib.Omega.{arith}
 use lib.Dec.{lit<}
 use borrow.Author.Tests.{ltb-true, ltb-false, le-leb, lt-leb}
 use lib.IntN.{ℤ, pos, negsuc, _+ℤ_, _-ℤ_, natAbs}
-use lib.Signed.{leZ, ltZ, _≤ℤ_}
+use lib.Signed.{ltZ, _≤ℤ_}
 use mir.Syntax.{w64}
 use mir.Val.{SFits}
-use Rattle.integers.specs.Fraction.{size}
 use Rattle.integers.proofs.LinearFacts.{integers, fits-by}
 use Rattle.integers.proofs.RingSolver.{con, _:+_, _:-_}
 use Rattle.integers.proofs.Order.{natAbs-parts}
 use Rattle.integers.proofs.MachineArithmetic.{fits-natAbs}
-use Rattle.method.specs.Limits.{greatest-figure, greatest-sum}
+use Rattle.method.specs.SumLimits.{greatest-sum}
+use Rattle.method.specs.Limits.{greatest-figure}
 use Rattle.method.specs.Outstandings.{Sums}
 use Rattle.method.specs.ProjectedYear.{Movement, share, next-year}
+use Rattle.method.specs.Tests.{figure-in-range}
 use Rattle.method.specs.Questions.{figures-in-range}
 use Rattle.method.proofs.QuestionFacts.{FiguresInRange, figures-in-range-true}
 use Rattle.method.proofs.Projection.{next-nonneg}
@@ -28,16 +29,16 @@ use Rattle.share.proofs.Answers.{rounded-is, rounded-size, too-large-is}
 use Rattle.projection.specs.declared.year.Movement as code
 use Rattle.projection.specs.declared.year.ProjectedYear.{ProjectedYear}
 use Rattle.projection.specs.declared.year.ProjectedYear.the-variants.{Within, TooLarge}
-use Rattle.projection.specs.Year.{YearInput, answered, movement-of}
+use Rattle.projection.specs.Year.{ProjectedYearInput, year-or-too-large, movement-of}
 
 -- P or Q, with the outstanding and D, as a share is asked of
-pub share-input : {r : ℤ} {s : Sums} → YearInput r s → (part : ℤ) → natAbs part ≤ greatest-sum → ShareInput r part (s .D)
+pub share-input : {r : ℤ} {s : Sums} → ProjectedYearInput r s → (part : ℤ) → natAbs part ≤ greatest-sum → ShareInput r part (s .D)
 share-input y part h = record {
   outstanding-nonneg = y .outstanding-nonneg;
   outstanding-most = y .outstanding-most;
   part-size = h;
-  exposure-positive = y .sums-right .exposure-positive;
-  exposure-most = y .sums-right .exposure-most;
+  exposure-positive = y .sums-in-range .D-positive;
+  exposure-most = y .sums-in-range .D-most;
 }
 
 -- ---- The answer
@@ -51,20 +52,20 @@ within (Within m) = true
 within TooLarge = false
 
 -- which case it is says whether all figures are within the limit
-case-is : (x : Movement) → figures-in-range x ≡ within (answered x)
-unfolding answered within
+case-is : (x : Movement) → figures-in-range x ≡ within (year-or-too-large x)
+unfolding year-or-too-large within
 case-is x = go (figures-in-range x) refl
   where
-    go : (b : Bool) → figures-in-range x ≡ b → figures-in-range x ≡ within (answered x)
+    go : (b : Bool) → figures-in-range x ≡ b → figures-in-range x ≡ within (year-or-too-large x)
     go true e = rw e
     go false e = rw e
 
-pub too-large-year : (x : Movement) → TooLarge ≡ answered x → figures-in-range x ≡ false
+pub too-large-year : (x : Movement) → TooLarge ≡ year-or-too-large x → figures-in-range x ≡ false
 unfolding within
 too-large-year x e = case-is x ∙ sym (ap within e)
 
-pub within-is : (x : Movement) (m : code.Movement) → Within m ≡ answered x → (m ≡ movement-of x) × (figures-in-range x ≡ true)
-unfolding answered movement within
+pub within-is : (x : Movement) (m : code.Movement) → Within m ≡ year-or-too-large x → (m ≡ movement-of x) × (figures-in-range x ≡ true)
+unfolding year-or-too-large movement within
 within-is x m e =
     let all : figures-in-range x ≡ true = case-is x ∙ sym (ap within e) in
     (ap movement e ∙ rw all, all)
@@ -75,7 +76,7 @@ pub record FiguresSmall (m : code.Movement) : Type 0 where
   pub adjustment : natAbs (m .adjustment .0) ≤ greatest-size
   pub outstanding : natAbs (m .outstanding .0) ≤ greatest-size
 
-pub within-small : (x : Movement) (m : code.Movement) → Within m ≡ answered x → FiguresSmall m
+pub within-small : (x : Movement) (m : code.Movement) → Within m ≡ year-or-too-large x → FiguresSmall m
 within-small x m e = subst FiguresSmall (sym (within-is x m e .0)) (small (figures-in-range-true x (within-is x m e .1)))
   where
     small : FiguresInRange x → FiguresSmall (movement-of x)
@@ -88,34 +89,36 @@ within-small x m e = subst FiguresSmall (sym (within-is x m e .0)) (small (figur
 -- ---- The answer from the tests of the three figures
 
 -- an outstanding that is not negative needs one test only
-above : (x : ℤ) → pos 0 ≤ℤ x → ltZ greatest-figure x ≡ true → leZ (size x) greatest-figure ≡ false
+above : (x : ℤ) → pos 0 ≤ℤ x → ltZ greatest-figure x ≡ true → figure-in-range x ≡ false
+unfolding figure-in-range
 above (pos m) h e = lt-leb m greatest-size (ltb-true greatest-size m e)
 above (negsuc m) h e = absurd (h .le)
 
-not-above : (x : ℤ) → pos 0 ≤ℤ x → ltZ greatest-figure x ≡ false → leZ (size x) greatest-figure ≡ true
+not-above : (x : ℤ) → pos 0 ≤ℤ x → ltZ greatest-figure x ≡ false → figure-in-range x ≡ true
+unfolding figure-in-range
 not-above (pos m) h e = le-leb m greatest-size (ltb-false greatest-size m e)
 not-above (negsuc m) h e = absurd (h .le)
 
-module _ {r : ℤ} {s : Sums} (y : YearInput r s) where
+module _ {r : ℤ} {s : Sums} (y : ProjectedYearInput r s) where
   abbrev paid : ℤ
   paid = share r (s .P) (s .D)
 
   abbrev adjusted : ℤ
   adjusted = share r (s .Q) (s .D)
 
-  pub payment-too-large : variants.TooLarge ≡ answer.answered paid → TooLarge ≡ answered (next-year r s)
-  unfolding next-year answered figures-in-range
+  pub payment-too-large : variants.TooLarge ≡ answer.share-or-too-large paid → TooLarge ≡ year-or-too-large (next-year r s)
+  unfolding next-year year-or-too-large figures-in-range
   payment-too-large e = rw (too-large-is paid e)
 
-  module _ {payment : Millionths} (p : variants.Rounded payment ≡ answer.answered paid) where
-    pub adjustment-too-large : variants.TooLarge ≡ answer.answered adjusted → TooLarge ≡ answered (next-year r s)
-    unfolding next-year answered figures-in-range
+  module _ {payment : Millionths} (p : variants.Rounded payment ≡ answer.share-or-too-large paid) where
+    pub adjustment-too-large : variants.TooLarge ≡ answer.share-or-too-large adjusted → TooLarge ≡ year-or-too-large (next-year r s)
+    unfolding next-year year-or-too-large figures-in-range
     adjustment-too-large e = rw (rounded-is paid payment p .1, too-large-is adjusted e)
 
     payment-size : natAbs (payment .0) ≤ greatest-size
     payment-size = rounded-size paid payment p
 
-    module _ {adjustment : Millionths} (a : variants.Rounded adjustment ≡ answer.answered adjusted) where
+    module _ {adjustment : Millionths} (a : variants.Rounded adjustment ≡ answer.share-or-too-large adjusted) where
       abbrev next : ℤ
       next = r -ℤ payment .0 +ℤ adjustment .0
 
@@ -129,21 +132,23 @@ module _ {r : ℤ} {s : Sums} (y : YearInput r s) where
 
       nonneg : pos 0 ≤ℤ next
       nonneg = subst (λ (m : Movement). pos 0 ≤ℤ m .outstanding) (sym is-next-year)
-          (next-nonneg r s (y .sums-right .exposure-positive) (y .outstanding-nonneg) (y .sums-right .factor-nonneg))
+          (next-nonneg r s (y .sums-in-range .D-positive) (y .outstanding-nonneg) (y .sums-in-range .factor-nonneg))
 
-      payment-in : leZ (size (payment .0)) greatest-figure ≡ true
+      payment-in : figure-in-range (payment .0) ≡ true
+      unfolding figure-in-range
       payment-in = le-leb (natAbs (payment .0)) greatest-size payment-size
 
-      adjustment-in : leZ (size (adjustment .0)) greatest-figure ≡ true
+      adjustment-in : figure-in-range (adjustment .0) ≡ true
+      unfolding figure-in-range
       adjustment-in = le-leb (natAbs (adjustment .0)) greatest-size adjustment-size
 
-      pub outstanding-too-large : ltZ greatest-figure next ≡ true → TooLarge ≡ answered (next-year r s)
-      unfolding answered figures-in-range
+      pub outstanding-too-large : ltZ greatest-figure next ≡ true → TooLarge ≡ year-or-too-large (next-year r s)
+      unfolding year-or-too-large figures-in-range
       outstanding-too-large e = rw (← is-next-year, payment-in, adjustment-in, above next nonneg e)
 
       pub all-within : ltZ greatest-figure next ≡ false
-          → Within (record { payment = payment; adjustment = adjustment; outstanding = record { 0 = next } }) ≡ answered (next-year r s)
-      unfolding answered figures-in-range
+          → Within (record { payment = payment; adjustment = adjustment; outstanding = record { 0 = next } }) ≡ year-or-too-large (next-year r s)
+      unfolding year-or-too-large figures-in-range
       all-within e = rw (← is-next-year, payment-in, adjustment-in, not-above next nonneg e)
 
 -- ---- Within 64 bits
@@ -160,11 +165,11 @@ pub record NumbersFit (r x z : ℤ) : Type 0 where
   pub less-payment : SFits w64 (r -ℤ x)
   pub next : SFits w64 (r -ℤ x +ℤ z)
 
-module _ {r : ℤ} {s : Sums} (y : YearInput r s) where
+module _ {r : ℤ} {s : Sums} (y : ProjectedYearInput r s) where
   pub exposure-fits : SFits w64 (s .D)
-  exposure-fits = fits-by w64 (con (s .D)) (omega (arith, integers, y .sums-right .exposure-positive, y .sums-right .exposure-most))
+  exposure-fits = fits-by w64 (con (s .D)) (omega (arith, integers, y .sums-in-range .D-positive, y .sums-in-range .D-most))
 
-  pub numbers-fit : {x z : Millionths} → variants.Rounded x ≡ answer.answered (share r (s .P) (s .D)) → variants.Rounded z ≡ answer.answered (share r (s .Q) (s .D))
+  pub numbers-fit : {x z : Millionths} → variants.Rounded x ≡ answer.share-or-too-large (share r (s .P) (s .D)) → variants.Rounded z ≡ answer.share-or-too-large (share r (s .Q) (s .D))
       → NumbersFit r (x .0) (z .0)
   numbers-fit {x} {z} p a =
       let b : natAbs (x .0) ≤ greatest-size = rounded-size _ x p in

@@ -1,9 +1,9 @@
 -- What a projected year is asked of, and its answer.
 use mathlib.Core.Bool.{Bool, true, false}
-use lib.IntN.{ℤ, pos, _+ℤ_, _-ℤ_, natAbs}
-use lib.Signed.{_≤ℤ_, _<ℤ_}
-use Prim.Native.Nat.{_≤_}
-use Rattle.method.specs.Limits.{greatest-figure, greatest-sum}
+use lib.IntN.{ℤ, pos}
+use lib.Signed.{_≤ℤ_}
+use Rattle.method.specs.SumLimits.{SumsInRange}
+use Rattle.method.specs.Limits.{greatest-figure}
 use Rattle.method.specs.Outstandings.{Sums}
 use Rattle.method.specs.ProjectedYear as meaning
 use Rattle.method.specs.Questions.{figures-in-range}
@@ -11,19 +11,11 @@ use Rattle.projection.specs.declared.year.Movement.{Movement}
 use Rattle.projection.specs.declared.year.ProjectedYear.{ProjectedYear}
 use Rattle.projection.specs.declared.year.ProjectedYear.the-variants.{Within, TooLarge}
 
--- the sums of a year as questions 1 to 8 leave them
-pub record SumsRight (s : Sums) : Type 0 where
-  pub payments-size : natAbs (s .P) ≤ greatest-sum
-  pub adjustments-size : natAbs (s .Q) ≤ greatest-sum
-  pub exposure-positive : pos 0 <ℤ s .D
-  pub exposure-most : s .D ≤ℤ pos greatest-sum
-  pub factor-nonneg : pos 0 ≤ℤ (s .D -ℤ s .P +ℤ s .Q)
-
--- with an outstanding within the limit of question 9
-pub record YearInput (outstanding : ℤ) (s : Sums) : Type 0 where
+-- the sums of a year as questions 1 to 8 leave them, with an outstanding within the limit of question 9
+pub record ProjectedYearInput (outstanding : ℤ) (s : Sums) : Type 0 where
   pub outstanding-nonneg : pos 0 ≤ℤ outstanding
   pub outstanding-most : outstanding ≤ℤ greatest-figure
-  pub sums-right : SumsRight s
+  pub sums-in-range : SumsInRange s
 
 abbrev pub movement-of : meaning.Movement → Movement
 movement-of m = record {
@@ -37,5 +29,5 @@ kept true m = Within (movement-of m)
 kept false m = TooLarge
 
 -- a movement, where its figures are within the limit of question 9
-unfoldable pub answered : meaning.Movement → ProjectedYear
-answered m = kept (figures-in-range m) m
+unfoldable pub year-or-too-large : meaning.Movement → ProjectedYear
+year-or-too-large m = kept (figures-in-range m) m

@@ -2,11 +2,12 @@
 ghost use mathlib.Core.Path.{_≡_};
 ghost use Rattle.method.specs.ProjectedYear.{next-year};
 ghost use Rattle.triangle.specs.Ratios.{sums-of};
-ghost use Rattle.projection.specs.Year.{YearInput, answered};
+ghost use Rattle.projection.specs.Year.{ProjectedYearInput, year-or-too-large};
 use share::Share;
 use share::millionths::Millionths;
 use share::rounded_share;
 use triangle::ratios::Sums;
+use verdicts::limits::GREATEST_FIGURE;
 
 // The figures of a projected cell.
 pub struct Movement {
@@ -23,8 +24,8 @@ pub enum ProjectedYear {
 
 // The year after one that ends with this outstanding and has these sums, or that a figure of it passes the limit of question 9.
 pub fn next_year(outstanding: Millionths, sums: Sums) -> ProjectedYear
-    requires { ⌜ YearInput (outstanding .0) (sums-of sums) ⌝ }
-    ensures { λ r. ⌜ r ≡ answered (next-year (outstanding .0) (sums-of sums)) ⌝ }
+    requires { ⌜ ProjectedYearInput (outstanding .0) (sums-of sums) ⌝ }
+    ensures { λ r. ⌜ r ≡ year-or-too-large (next-year (outstanding .0) (sums-of sums)) ⌝ }
 {
     let exposure = sums.exposure;
     let paid = rounded_share(outstanding, sums.payments, exposure);
@@ -35,6 +36,7 @@ pub fn next_year(outstanding: Millionths, sums: Sums) -> ProjectedYear
     let Share::Rounded(adjustment) = adjusted else {
         return ProjectedYear::TooLarge;
     };
+    // An outstanding is never negative, so one side is tested.
     let next = outstanding.0 - payment.0 + adjustment.0;
     if next > GREATEST_FIGURE {
         return ProjectedYear::TooLarge;
@@ -45,6 +47,3 @@ pub fn next_year(outstanding: Millionths, sums: Sums) -> ProjectedYear
         outstanding: Millionths(next),
     })
 }
-
-// Of a projected figure, in millionths, of either sign. An outstanding is never negative.
-const GREATEST_FIGURE: i64 = 10_000_000_000_000_000;

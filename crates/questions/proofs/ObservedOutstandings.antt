@@ -8,12 +8,14 @@ use lib.IntN.{ℤ, _+ℤ_, _-ℤ_}
 use lib.ListN.{length}
 use Rattle.method.specs.Triangle.{Triangle, amounts-length, entry}
 use Rattle.method.specs.Outstandings.{R}
-use Rattle.method.specs.Questions.{Verdict, at, ask, first-to, each-in-row, each-cell, known, outstanding-in-range, question-6}
+use Rattle.method.specs.Verdicts.{Verdict, at, ask, first-to, each-in-row, each-cell}
+use Rattle.method.specs.Tests.{outstanding-in-range}
+use Rattle.method.specs.Questions.{question-6}
 use Rattle.method.proofs.FirstRefusal.{first-same}
 use Rattle.method.proofs.Rows.{part-length}
 use Rattle.cells.specs.Cells.{row-part}
 use Rattle.cells.proofs.CellTests.{part-entry}
-use Rattle.outstandings.specs.Observed.{in-range-where-known, row-outstanding, year-of-row, row-of-outstandings, outstandings-of-year, all-outstandings}
+use Rattle.outstandings.specs.Observed.{row-outstanding, year-of-row, row-of-outstandings, outstandings-of-year, all-outstandings}
 use Rattle.outstandings.proofs.ObservedRows.{outstandings-of-row}
 use Rattle.questions.specs.Lent.{counted}
 
@@ -29,14 +31,14 @@ module _ (n cut : ℕ) (payments adjustments weights openings : List ℤ) (paid 
       ap₂ (λ (x y : ℤ). R t (suc r) k -ℤ x +ℤ y) (sym (part-entry n r payments paid k (omega arith))) (sym (part-entry n r adjustments adjusted k (omega arith)))
       ∙ ap (λ (o : ℤ). o -ℤ entry (row-part n r payments) (suc k) +ℤ entry (row-part n r adjustments) (suc k)) (R-of-row r k (omega arith))
 
-  row-of-question-6 : (r : ℕ) → r < n → outstandings-of-year n cut payments adjustments openings (suc r) ≡ each-in-row n 6 (outstanding-in-range t) (suc r)
-  unfolding row-of-outstandings each-in-row year-of-row outstanding-in-range known
+  row-of-question-6 : (r : ℕ) → r < n → outstandings-of-year n cut payments adjustments openings (suc r) ≡ each-in-row n 6 (λ i k. outstanding-in-range cut i k (R t i k)) (suc r)
+  unfolding row-of-outstandings each-in-row year-of-row
   row-of-question-6 r l =
       ap (outstandings-of-year n cut payments adjustments openings) (sym (add-one r))
       ∙ outstandings-of-row n cut payments adjustments openings r
       ∙ ap (λ (i : ℕ). row-of-outstandings cut i (entry openings (suc r)) (row-part n r payments) (row-part n r adjustments)) (add-one r)
       ∙ ap (λ (x : ℕ). first-to x row) lengths
-      ∙ first-same (n + 1 - suc r) row (λ k. ask (outstanding-in-range t (suc r) k) 6 (at (suc r) k)) same
+      ∙ first-same (n + 1 - suc r) row (λ k. ask (outstanding-in-range cut (suc r) k (R t (suc r) k)) 6 (at (suc r) k)) same
     where
       row : ℕ → Verdict
       row = year-of-row cut (suc r) (entry openings (suc r)) (row-part n r payments) (row-part n r adjustments)
@@ -44,9 +46,9 @@ module _ (n cut : ℕ) (payments adjustments weights openings : List ℤ) (paid 
       lengths : length (row-part n r payments) ≡ n + 1 - suc r
       lengths = part-length n r payments l paid ∙ omega arith
 
-      same : (k : ℕ) → k < n + 1 - suc r → row (suc k) ≡ ask (outstanding-in-range t (suc r) (suc k)) 6 (at (suc r) (suc k))
-      same k h = ap (λ (o : ℤ). ask (in-range-where-known cut (suc r) (suc k) o) 6 (at (suc r) (suc k))) (sym (R-of-row r (suc k) (omega arith)))
+      same : (k : ℕ) → k < n + 1 - suc r → row (suc k) ≡ ask (outstanding-in-range cut (suc r) (suc k) (R t (suc r) (suc k))) 6 (at (suc r) (suc k))
+      same k h = ap (λ (o : ℤ). ask (outstanding-in-range cut (suc r) (suc k) o) 6 (at (suc r) (suc k))) (sym (R-of-row r (suc k) (omega arith)))
 
   pub question-6-is : all-outstandings n cut payments adjustments openings ≡ question-6 t
   unfolding all-outstandings question-6 each-cell
-  question-6-is = first-same n (outstandings-of-year n cut payments adjustments openings) (each-in-row n 6 (outstanding-in-range t)) row-of-question-6
+  question-6-is = first-same n (outstandings-of-year n cut payments adjustments openings) (each-in-row n 6 (λ i k. outstanding-in-range cut i k (R t i k))) row-of-question-6

@@ -10,7 +10,7 @@ use mir.Syntax.{w64}
 use mir.Val.{Fits}
 use Rattle.integers.proofs.LinearFacts.{integers}
 use Rattle.method.specs.Limits.{greatest-amount}
-use Rattle.method.specs.Questions.{from-to}
+use Rattle.method.specs.Tests.{from-to}
 use Rattle.method.proofs.Tests.{from-to-true}
 
 pub few-years : (z : ℤ) → from-to (pos 0) (pos 32) z ≡ true → (T (nonNeg z) × Fits w64 (natAbs z)) × (natAbs z ≤ 32)

@@ -3,7 +3,7 @@ ghost use mathlib.Core.Path.{_≡_};
 ghost use Prim.Native.Nat.{_≤_};
 ghost use lib.IntN.{negℤ};
 ghost use Rattle.method.specs.Limits.{greatest-amount};
-ghost use Rattle.method.specs.Questions.{from-to};
+ghost use Rattle.method.specs.Tests.{from-to};
 use share::millionths::Millionths;
 use verdicts::limits::GREATEST_AMOUNT;
 use verdicts::limits::MOST_YEARS;

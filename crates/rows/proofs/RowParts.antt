@@ -6,7 +6,7 @@ use native.Mathlib.Omega.{arith}
 use lib.IntN.{ℤ, natAbs}
 use lib.ListN.{length, take, drop}
 use Rattle.method.specs.Triangle.{cells-before}
-use Rattle.method.specs.Questions.{Place, accepted, refused}
+use Rattle.method.specs.Verdicts.{Place, accepted, refused}
 use Rattle.method.specs.Answers.{Amounts, payments, adjustments, named-list, row-verdict, row-of, row}
 use Rattle.method.proofs.Positions.{cells-before-is, row-inside}
 use Rattle.method.proofs.Rows.{RowAccepted, row-accepted, named-length}

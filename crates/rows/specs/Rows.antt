@@ -1,13 +1,13 @@
 -- The lists that a row's call lends and names, and the part of one that it hands back.
 use mathlib.Core.Path.{_≡_}
-use mathlib.Core.List.{List}
+use mathlib.Core.List.{List, []}
 use Prim.Native.Nat.{ℕ, _+_, _*_, _-_, _≤_}
 use lib.IntN.{ℤ, natAbs}
 use lib.ListN.{length}
 use denote.Ref.{RefT}
 use Rattle.method.specs.Limits.{most-accident-years}
 use Rattle.method.specs.Triangle.{amounts-length, cells-before}
-use Rattle.method.specs.Questions.{accepted}
+use Rattle.method.specs.Verdicts.{accepted}
 use Rattle.method.specs.Answers.{Amounts, payments, adjustments, row-verdict, row}
 use Rattle.rows.specs.declared.AmountList.{AmountList}
 use Rattle.rows.specs.declared.AmountList.the-variants.{Payments, Adjustments}
@@ -44,8 +44,9 @@ named-of payment-list adjustment-list payments = payment-list
 named-of payment-list adjustment-list adjustments = adjustment-list
 
 -- What a row's call hands back: the row's numbers, and where it is accepted the part of the list that is named.
--- A refused row is empty; where an empty list lies is left free.
+-- A refused row is empty. Where an empty row lies in memory is the one answer that is left free: nothing can be read there.
 pub record RowHandedBack (years : ℤ) (payment-list adjustment-list : LentList) (accident-year : ℤ) (named : Amounts) (r : LentList) : Type 0 where
   pub holds : r .now ≡ row years (payment-list .now) (adjustment-list .now) accident-year named
+  pub empty-where-refused : ¬ (row-verdict years (payment-list .now) (adjustment-list .now) accident-year ≡ accepted) → r .now ≡ []
   pub own-part : row-verdict years (payment-list .now) (adjustment-list .now) accident-year ≡ accepted
       → OwnPart (named-of payment-list adjustment-list named) (cells-before (natAbs years) (natAbs accident-year - 1)) r

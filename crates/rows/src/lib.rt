@@ -6,6 +6,7 @@ ghost use lib.ListN.{take, drop};
 ghost use Rattle.method.specs.Limits.{most-accident-years};
 ghost use Rattle.method.specs.Triangle.{cells-before};
 ghost use Rattle.method.specs.Answers as meaning;
+ghost use Rattle.method.specs.Demand1.{Demand-1-of-row};
 ghost use Rattle.verdicts.specs.Verdicts.{verdict-of};
 ghost use Rattle.rows.specs.Rows.{amounts-of, RowInside, OwnPart, named-of, RowHandedBack};
 use verdicts::limits::from_to;
@@ -59,7 +60,8 @@ pub fn row_verdict<'a>(
     named: AmountList,
     accident_year: i64,
 ) -> Verdict
-    ensures { λ r. ⌜ verdict-of r ≡ meaning.row-verdict years (now (payments .entry)) (now (adjustments .entry)) «accident_year» ⌝ }
+    ensures whole { λ r. ⌜ verdict-of r ≡ meaning.row-verdict years (now (payments .entry)) (now (adjustments .entry)) «accident_year» ⌝ }
+    ensures demand_1 { λ r. ⌜ Demand-1-of-row years (now (payments .entry)) (now (adjustments .entry)) «accident_year» (verdict-of r) ⌝ }
 {
     let first = question_1(years);
     let Verdict::Accepted = first else {

@@ -15,10 +15,11 @@ use Rattle.integers.proofs.LinearFacts.{integers, parts, ≤ℤ-by, <ℤ-by}
 use Rattle.integers.proofs.Order.{natAbs-parts, natAbs-in-range, size-of-nonneg}
 use Rattle.integers.proofs.MachineArithmetic.{fits-natAbs}
 use Rattle.integers.proofs.Rounding.{Nearest, half-up-nearest, half-up-unique}
+use Rattle.method.specs.Tests.{figure-in-range}
 use Rattle.method.specs.ProjectedYear.{share}
 use Rattle.share.specs.declared.Quotient.{Quotient}
 use Rattle.share.specs.declared.Share.the-variants.{Rounded, TooLarge}
-use Rattle.share.specs.Share.{ShareInput, greatest-size, answered}
+use Rattle.share.specs.Share.{ShareInput, greatest-size, share-or-too-large}
 use Rattle.share.specs.Signs.{half-away, half, with-sign-of}
 use Rattle.share.specs.LongDivision.{DivisionInput, Divided}
 use Rattle.share.proofs.Signs.{half-away-≤, size-with-sign, product-with-sign}
@@ -64,12 +65,12 @@ nearest-size-high (negsuc _) x d (negsuc m) n =
 
 -- ---- The share
 
-within-limit : (x : ℤ) → natAbs x ≤ greatest-size → Rounded (record { 0 = x }) ≡ answered x
-unfolding answered
+within-limit : (x : ℤ) → natAbs x ≤ greatest-size → Rounded (record { 0 = x }) ≡ share-or-too-large x
+unfolding share-or-too-large figure-in-range
 within-limit x l = rw (le-leb (natAbs x) greatest-size l)
 
-past-limit : (x : ℤ) → greatest-size < natAbs x → TooLarge ≡ answered x
-unfolding answered
+past-limit : (x : ℤ) → greatest-size < natAbs x → TooLarge ≡ share-or-too-large x
+unfolding share-or-too-large figure-in-range
 past-limit x l = rw (lt-leb (natAbs x) greatest-size l)
 
 module _ {o p e : ℤ} (i : ShareInput o p e) where
@@ -98,13 +99,13 @@ module _ {o p e : ℤ} (i : ShareInput o p e) where
   divisor-positive = subst (λ (z : ℤ). pos 0 <ℤ z) (sym (size-of-nonneg e (<ℤ→≤ℤ (i .exposure-positive)))) (i .exposure-positive)
 
   module _ {cut : Quotient} (c : Divided (natAbs o * natAbs p + half (natAbs e) p) (natAbs e) cut) where
-    pub rounded : cut .quotient ≤ greatest-size → Rounded (record { 0 = with-sign-of p (cut .quotient) }) ≡ answered (share o p e)
-    rounded l = within-limit (with-sign-of p (cut .quotient)) (le-trans (le-of-eq (size-with-sign p (cut .quotient))) l) ∙ ap answered (
+    pub rounded : cut .quotient ≤ greatest-size → Rounded (record { 0 = with-sign-of p (cut .quotient) }) ≡ share-or-too-large (share o p e)
+    rounded l = within-limit (with-sign-of p (cut .quotient)) (le-trans (le-of-eq (size-with-sign p (cut .quotient))) l) ∙ ap share-or-too-large (
         half-up-unique dividend divisor (with-sign-of p (cut .quotient)) divisor-positive
         (nearest-with-sign p (natAbs o * natAbs p) (natAbs e) (cut .quotient) (nearest-size p (natAbs o * natAbs p) c l)) ∙ sym share-is)
 
-    pub too-large : greatest-size < cut .quotient → TooLarge ≡ answered (share o p e)
-    too-large l = past-limit (half-up dividend divisor) passed ∙ ap answered (sym share-is)
+    pub too-large : greatest-size < cut .quotient → TooLarge ≡ share-or-too-large (share o p e)
+    too-large l = past-limit (half-up dividend divisor) passed ∙ ap share-or-too-large (sym share-is)
       where
         high : 2 * (natAbs o * natAbs p) + half-away p ≤ 2 * (natAbs (half-up dividend divisor) * natAbs e) + natAbs e
         high = nearest-size-high p (natAbs o * natAbs p) (natAbs e) (half-up dividend divisor) (half-up-nearest dividend divisor divisor-positive)

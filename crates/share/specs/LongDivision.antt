@@ -1,7 +1,7 @@
 -- Long division by digits of the dividend; numbers without a sign.
 use mathlib.Core.Path.{_≡_}
 use Prim.Native.Nat.{ℕ, _+_, _*_, _≤_, _<_, _^_}
-use Rattle.method.specs.Limits.{greatest-sum}
+use Rattle.method.specs.SumLimits.{greatest-sum}
 use Rattle.share.specs.Share.{greatest-size}
 use Rattle.share.specs.declared.Quotient.{Quotient}
 

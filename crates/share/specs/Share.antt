@@ -2,9 +2,10 @@
 use Prim.Native.Nat.{ℕ, _≤_}
 use mathlib.Core.Bool.{Bool, true, false}
 use lib.IntN.{ℤ, pos, natAbs}
-use lib.Signed.{leZ, _≤ℤ_, _<ℤ_}
-use Rattle.integers.specs.Fraction.{size}
-use Rattle.method.specs.Limits.{greatest-figure, greatest-sum}
+use lib.Signed.{_≤ℤ_, _<ℤ_}
+use Rattle.method.specs.Limits.{greatest-figure}
+use Rattle.method.specs.Tests.{figure-in-range}
+use Rattle.method.specs.SumLimits.{greatest-sum}
 use Rattle.share.specs.declared.Share.{Share}
 use Rattle.share.specs.declared.Share.the-variants.{Rounded, TooLarge}
 
@@ -25,5 +26,5 @@ kept true x = Rounded (record { 0 = x })
 kept false x = TooLarge
 
 -- A share, where its size is within the limit of question 9.
-unfoldable pub answered : ℤ → Share
-answered x = kept (leZ (size x) greatest-figure) x
+unfoldable pub share-or-too-large : ℤ → Share
+share-or-too-large x = kept (figure-in-range x) x

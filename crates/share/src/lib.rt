@@ -2,15 +2,16 @@
 ghost use mathlib.Core.Path.{_≡_};
 ghost use lib.IntN.{natAbs};
 ghost use Prim.Native.Nat.{_≤_, _<_};
-ghost use Rattle.method.specs.Limits.{greatest-sum};
+ghost use Rattle.method.specs.SumLimits.{greatest-sum};
 ghost use Rattle.method.specs.ProjectedYear.{share};
-ghost use Rattle.share.specs.Share.{ShareInput, greatest-size, answered};
+ghost use Rattle.share.specs.Share.{ShareInput, greatest-size, share-or-too-large};
 ghost use Rattle.share.specs.Signs.{half, with-sign-of};
 ghost use Rattle.share.specs.LongDivision.{DivisionInput, narrow, dividend, Divided, DigitInput, OneDigitMore, Capped};
 
 pub mod millionths;
 
 use millionths::Millionths;
+use verdicts::limits::GREATEST_FIGURE;
 
 // A rounded share, or that its size passes the limit of question 9.
 pub enum Share {
@@ -21,7 +22,7 @@ pub enum Share {
 // outstanding × part / exposure, rounded half up, or that its size passes the limit of question 9.
 pub fn rounded_share(outstanding: Millionths, part: i64, exposure: i64) -> Share
     requires { ⌜ ShareInput (outstanding .0) part exposure ⌝ }
-    ensures { λ r. ⌜ r ≡ answered (share (outstanding .0) part exposure) ⌝ }
+    ensures { λ r. ⌜ r ≡ share-or-too-large (share (outstanding .0) part exposure) ⌝ }
 {
     let divisor = exposure as u64;
     let half = half_of(divisor, part);
@@ -32,8 +33,8 @@ pub fn rounded_share(outstanding: Millionths, part: i64, exposure: i64) -> Share
     Share::Rounded(Millionths(with_sign_of(part, size)))
 }
 
-// Of a share, in millionths: the limit of question 9.
-const GREATEST_SIZE: u64 = 10_000_000_000_000_000;
+// Of a share, without its sign: the limit of question 9.
+const GREATEST_SIZE: u64 = GREATEST_FIGURE as u64;
 
 // ---- Signs
 

@@ -5,8 +5,9 @@ use native.Mathlib.Omega.{arith}
 use lib.IntN.{ℤ, pos, negℤ}
 use Rattle.integers.proofs.LinearFacts.{integers}
 use Rattle.integers.proofs.Order.{natAbs-≤}
-use Rattle.method.specs.Limits.{greatest-figure, greatest-sum}
-use Rattle.method.specs.Questions.{from-to}
+use Rattle.method.specs.SumLimits.{greatest-sum}
+use Rattle.method.specs.Limits.{greatest-figure}
+use Rattle.method.specs.Tests.{from-to}
 use Rattle.method.proofs.Tests.{from-to-true}
 use Rattle.share.specs.Share.{ShareInput}
 

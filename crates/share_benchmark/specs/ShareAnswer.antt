@@ -1,10 +1,11 @@
 -- What the benchmark's call answers, for any three numbers.
 use mathlib.Core.Bool.{Bool, true, false, _&&_}
 use lib.IntN.{ℤ, pos, negℤ}
-use Rattle.method.specs.Limits.{greatest-figure, greatest-sum}
+use Rattle.method.specs.SumLimits.{greatest-sum}
+use Rattle.method.specs.Limits.{greatest-figure}
 use Rattle.method.specs.ProjectedYear.{share}
-use Rattle.method.specs.Questions.{from-to}
-use Rattle.share.specs.Share.{answered}
+use Rattle.method.specs.Tests.{from-to}
+use Rattle.share.specs.Share.{share-or-too-large}
 use Rattle.share.specs.declared.Share.{Share}
 use Rattle.share.specs.declared.Share.the-variants.{Rounded, TooLarge}
 use Rattle.share_benchmark.specs.declared.ShareAnswer.{ShareAnswer}
@@ -22,6 +23,6 @@ in-limits outstanding part exposure =
 
 unfoldable pub share-answer : ℤ → ℤ → ℤ → ShareAnswer
 share-answer outstanding part exposure = elim (in-limits outstanding part exposure) [
-  | true ↦ as-answer (answered (share outstanding part exposure))
+  | true ↦ as-answer (share-or-too-large (share outstanding part exposure))
   | false ↦ record { outcome = pos 2; value = pos 0 }
 ]

@@ -3,6 +3,7 @@ ghost use mathlib.Core.Path.{_≡_};
 ghost use Rattle.share_benchmark.specs.ShareAnswer.{as-answer, share-answer};
 use share::Share;
 use share::millionths::Millionths;
+use verdicts::limits::GREATEST_FIGURE;
 use verdicts::limits::from_to;
 
 // Outcome 0 with the share in millionths; 1 where it is too large and 2 where an argument is outside its limits, with value 0.
@@ -29,8 +30,6 @@ pub extern "C" fn juniperprow_share(outstanding: i64, part: i64, exposure: i64) 
         value: 0,
     }
 }
-
-const GREATEST_FIGURE: i64 = 10_000_000_000_000_000;
 
 const GREATEST_SUM: i64 = 3_100_000_000_000;
 

@@ -20,9 +20,9 @@ use Rattle.share.specs.Share.{greatest-size}
 use Rattle.triangle.specs.declared.ratios.Sums.{Sums}
 use Rattle.projection.specs.declared.year.Movement.{Movement}
 use Rattle.projection.specs.declared.year.ProjectedYear.the-variants.{Within, TooLarge}
-use Rattle.projection.specs.Year.{YearInput, answered, movement-of}
+use Rattle.projection.specs.Year.{ProjectedYearInput, year-or-too-large, movement-of}
 use Rattle.projection.proofs.Years.{within-is, too-large-year}
-use Rattle.calls.specs.Rows.{sums-at, outstanding-after, projected-year}
+use Rattle.calls.specs.ProjectedRows.{sums-at, outstanding-after, projected-year}
 use Rattle.single_cell.specs.Cells.{CellInput, outstanding-of, movement-of-year}
 
 pub later-than : {last year : ℕ} → last ≤ year → (year ≡ last → ⊥) → last < year
@@ -49,10 +49,10 @@ module _ {ratios : List Sums} {last : ℕ} {observed : ℤ} {year : ℕ} (c : Ce
   unfolding outstanding-after
   on-the-way zero h = (c .observed-nonneg, c .observed-most)
   on-the-way (suc j) h =
-      let right = c .sums-right (last - 1 + j) (omega (arith, c .first)) in
+      let right = c .sums-in-range (last - 1 + j) (omega (arith, c .first)) in
       let small = figures-in-range-true _ (c .within j (omega arith)) .outstanding in
       let lead = ap (λ (x : ℕ). projected-year ratios (last - 1) observed x .outstanding) (sym (add-one j)) in (
-        next-nonneg _ _ (right .exposure-positive) (on-the-way j (omega arith) .0) (right .factor-nonneg),
+        next-nonneg _ _ (right .D-positive) (on-the-way j (omega arith) .0) (right .factor-nonneg),
         subst (λ (x : ℤ). x ≤ℤ greatest-figure) (sym (year-leads ratios (last - 1) observed j ∙ lead))
             (natAbs-≤ _ greatest-size .0 (omega (arith, integers, small)) .1),
       )
@@ -65,7 +65,7 @@ module _ {ratios : List Sums} {last : ℕ} {observed : ℤ} {year : ℕ} (c : Ce
       most = omega (arith, c .most);
       observed-nonneg = c .observed-nonneg;
       observed-most = c .observed-most;
-      sums-right = λ j h. c .sums-right j (omega arith);
+      sums-in-range = λ j h. c .sums-in-range j (omega arith);
       within = λ j h. c .within j (omega arith);
     }
 
@@ -82,21 +82,21 @@ module _ {ratios : List Sums} {last : ℕ} {observed : ℤ} {year : ℕ} (c : Ce
         let f : last - 1 + (year - last - 1) ≡ year - 2 = omega (arith, c .first) in
         ap₂ (λ (x y : ℕ). next-year (outstanding-after ratios (last - 1) observed x) (sums-at ratios y)) e f
 
-    pub year-input : YearInput (outstanding-of ratios last observed (year - 1)) (sums-at ratios (year - 2))
+    pub year-input : ProjectedYearInput (outstanding-of ratios last observed (year - 1)) (sums-at ratios (year - 2))
     year-input = record {
       outstanding-nonneg = on-the-way (year - 1 - last) (omega arith) .0;
       outstanding-most = on-the-way (year - 1 - last) (omega arith) .1;
-      sums-right = c .sums-right (year - 2) (omega (arith, c .first));
+      sums-in-range = c .sums-in-range (year - 2) (omega (arith, c .first));
     }
 
     abbrev next : meaning.Movement
     next = next-year (outstanding-of ratios last observed (year - 1)) (sums-at ratios (year - 2))
 
-    pub never-too-large : TooLarge ≡ answered next → ⊥
+    pub never-too-large : TooLarge ≡ year-or-too-large next → ⊥
     never-too-large e =
         let s : year - 1 - last + 1 ≡ year - last = omega arith in
         true≢false (sym (c .within (year - 1 - last) (omega arith)) ∙ ap (λ (x : ℕ). figures-in-range (projected-year ratios (last - 1) observed x)) s
         ∙ ap figures-in-range movement-is ∙ too-large-year next e)
 
-    pub answered-movement : {m : Movement} → Within m ≡ answered next → m ≡ movement-of (movement-of-year ratios last observed year)
+    pub answered-movement : {m : Movement} → Within m ≡ year-or-too-large next → m ≡ movement-of (movement-of-year ratios last observed year)
     answered-movement {m} e = within-is next m e .0 ∙ ap movement-of (sym movement-is)

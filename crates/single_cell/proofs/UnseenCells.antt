@@ -9,7 +9,8 @@ use mir.Val.{SFits}
 use Rattle.integers.proofs.RingSolver.{con, _:+_, _:-_}
 use Rattle.integers.proofs.LinearFacts.{integers, ≤ℤ-by, <ℤ-by, fits-by, parts}
 use Rattle.integers.proofs.Order.{natAbs-parts}
-use Rattle.method.specs.Questions.{from-to, cell-unseen}
+use Rattle.method.specs.Tests.{from-to}
+use Rattle.method.specs.Questions.{cell-unseen}
 use Rattle.method.proofs.Tests.{is-true, true-is, from-to-true}
 use Rattle.method.proofs.QuestionFacts.{YearsInRange}
 

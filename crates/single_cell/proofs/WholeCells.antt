@@ -9,14 +9,18 @@ use Rattle.method.specs.Limits.{one-unit}
 use Rattle.method.specs.Triangle.{Triangle, n, entry}
 use Rattle.method.specs.ProjectedYear.{Movement}
 use Rattle.method.specs.RunOff.{movement, year-before, method}
-use Rattle.method.specs.Questions.{Place, Verdict, accepted, refused, first-to, figures-in-range}
-use Rattle.method.specs.Answers.{cell-verdict, cell-figures, single-cell}
+use Rattle.method.specs.Verdicts.{Place, Verdict, accepted, refused, first-to}
+use Rattle.method.specs.Questions.{figures-in-range}
+use Rattle.method.specs.Answers.{CellAnswer, cell-verdict, cell-figures, single-cell}
+use Rattle.method.specs.Demand1.{Demand-1-of-cell}
+use Rattle.method.specs.Demand3.{CellOfFuture}
+use Rattle.method.proofs.Demands.{demand-1-of-cell-answer, cell-answer-of-future}
 use Rattle.method.proofs.FirstRefusal.{ask-accepted, first-accepted}
 use Rattle.method.proofs.QuestionFacts.{UnseenCell}
 use Rattle.method.proofs.Positions.{entry-at}
 use Rattle.triangle.specs.declared.ratios.Sums.{Sums}
 use Rattle.triangle.specs.Ratios.{DevelopmentOf}
-use Rattle.calls.specs.Rows.{projected-year, row-question, row-verdict, observed-of, verdict-of-row, RowInput, Projectable}
+use Rattle.calls.specs.ProjectedRows.{projected-year, row-question, figures-verdict, observed-of, verdict-of-row, RowInput, Projectable}
 use Rattle.calls.proofs.RowLoop.{RowInMillionths, in-millionths}
 use Rattle.calls.proofs.OfTriangle.{year-is}
 use Rattle.single_cell.specs.Cells.{CellInput, cell-movement, CellAccepted}
@@ -46,7 +50,7 @@ module _ {n : ℕ} {ratios : List Sums} {outstandings : List ℤ} {i k : ℕ} (a
   later-year = omega (arith, a .unseen)
 
   pub cell-input : CellInput ratios (n + 1 - i) (observed-of n ratios outstandings i) k
-  unfolding verdict-of-row row-verdict row-question
+  unfolding verdict-of-row figures-verdict row-question
   cell-input =
       let m : RowInMillionths n ratios i (observed-of n ratios outstandings i) = subst (RowInMillionths n ratios i) in-units (in-millionths row-of-cell) in
       record {
@@ -55,7 +59,7 @@ module _ {n : ℕ} {ratios : List Sums} {outstandings : List ℤ} {i k : ℕ} (a
         most = omega (arith, a .last-year, a .readable .most);
         observed-nonneg = m .observed-nonneg;
         observed-most = m .observed-most;
-        sums-right = λ j h. a .readable .year j (omega (arith, a .last-year));
+        sums-in-range = λ j h. a .readable .year j (omega (arith, a .last-year));
         within = λ j h.
             let e : n + 1 - i - 1 ≡ n - i = omega (arith, a .last) in
             ap (λ (x : ℕ). figures-in-range (projected-year ratios x (observed-of n ratios outstandings i) (j + 1))) e
@@ -101,3 +105,9 @@ module _ (t : Triangle) (i k : ℤ) {v : Verdict} (e : v ≡ cell-verdict t i k)
   pub accepted-whole : v ≡ accepted → {m : Movement} → m ≡ movement (method t) (natAbs i) (natAbs k - 1) → accepted-cell m ≡ single-cell t i k
   unfolding single-cell cell-figures
   accepted-whole a f = ap accepted-cell f ∙ ap (cell-figures t i k) (sym a ∙ e)
+
+-- ---- The demands
+
+pub with-demands : (t : Triangle) (i k : ℤ) {c : CellAnswer} → c ≡ single-cell t i k
+    → (c ≡ single-cell t i k) × (Demand-1-of-cell t i k c × (c .verdict ≡ accepted → CellOfFuture t i k c))
+with-demands t i k e = (e, (demand-1-of-cell-answer t i k e, cell-answer-of-future t i k e))

@@ -1,7 +1,7 @@
 -- What the call answers, in the figures of document 01.
 use lib.IntN.{pos}
 use Rattle.method.specs.ProjectedYear.{Movement}
-use Rattle.method.specs.Questions.{Verdict, accepted}
+use Rattle.method.specs.Verdicts.{Verdict, accepted}
 use Rattle.method.specs.Answers.{CellAnswer}
 use Rattle.verdicts.specs.Verdicts.{verdict-of}
 use Rattle.single_cell.specs.declared.Cell.{Cell}

@@ -7,10 +7,11 @@ use lib.IntN.{ℤ, pos}
 use lib.Signed.{_≤ℤ_}
 use Rattle.method.specs.Limits.{greatest-figure, most-accident-years}
 use Rattle.method.specs.ProjectedYear.{Movement}
-use Rattle.method.specs.Questions.{accepted, figures-in-range}
+use Rattle.method.specs.Verdicts.{accepted}
+use Rattle.method.specs.Questions.{figures-in-range}
 use Rattle.triangle.specs.declared.ratios.Sums.{Sums}
-use Rattle.projection.specs.Year.{SumsRight}
-use Rattle.calls.specs.Rows.{sums-at, outstanding-after, projected-year, observed-of, verdict-of-row, Projectable}
+use Rattle.method.specs.SumLimits.{SumsInRange}
+use Rattle.calls.specs.ProjectedRows.{sums-at, outstanding-after, projected-year, observed-of, verdict-of-row, Projectable}
 
 -- A row with its last observed year, its outstanding then, in millionths, and a later year up to which its figures passed question 9.
 pub record CellInput (ratios : List Sums) (last : ℕ) (observed : ℤ) (year : ℕ) : Type 0 where
@@ -19,7 +20,7 @@ pub record CellInput (ratios : List Sums) (last : ℕ) (observed : ℤ) (year : 
   pub most : year ≤ most-accident-years
   pub observed-nonneg : pos 0 ≤ℤ observed
   pub observed-most : observed ≤ℤ greatest-figure
-  pub sums-right : (j : ℕ) → j + 1 < year → SumsRight (sums-at ratios j)
+  pub sums-in-range : (j : ℕ) → j + 1 < year → SumsInRange (sums-at ratios j)
   pub within : (j : ℕ) → last + j < year → figures-in-range (projected-year ratios (last - 1) observed (j + 1)) ≡ true
 
 -- the outstanding of a year from the last observed one on, and the movement of a later one

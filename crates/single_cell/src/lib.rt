@@ -1,15 +1,18 @@
 // One unseen cell alone, as a desk asks for it.
 ghost use mathlib.Core.Path.{_≡_};
 ghost use Prim.Native.Nat.{_<_};
-ghost use Rattle.method.specs.Questions.{accepted, first-to, question-1, cell-unseen};
+ghost use Rattle.method.specs.Verdicts.{accepted, first-to};
+ghost use Rattle.method.specs.Questions.{question-1, cell-unseen};
 ghost use Rattle.method.specs.Answers.{single-cell};
+ghost use Rattle.method.specs.Demand1.{Demand-1-of-cell};
+ghost use Rattle.method.specs.Demand3.{CellOfFuture};
 ghost use Rattle.verdicts.specs.Verdicts.{verdict-of};
 ghost use Rattle.questions.specs.Lent.{lent};
 ghost use Rattle.projection.specs.Year.{movement-of};
-ghost use Rattle.calls.specs.Rows.{Projectable, verdict-of-row};
+ghost use Rattle.calls.specs.ProjectedRows.{Projectable, verdict-of-row};
 ghost use Rattle.single_cell.specs.Cells.{CellInput, outstanding-of, movement-of-year, CellAccepted, cell-movement};
 ghost use Rattle.single_cell.specs.Answers.{cell-of, accepted-cell, refused-cell};
-use calls::rows::project_row;
+use calls::projected_rows::project_row;
 use projection::year::Movement;
 use projection::year::ProjectedYear;
 use projection::year::next_year;
@@ -43,9 +46,15 @@ pub fn single_cell<'a>(
     accident_year: i64,
     development_year: i64,
 ) -> Cell
-    ensures { λ r. ⌜ cell-of r ≡ single-cell
+    ensures whole { λ r. ⌜ cell-of r ≡ single-cell
         (lent years cut (now (payments .entry)) (now (adjustments .entry)) (now (weights .entry)) (now (openings .entry)))
         «accident_year» «development_year» ⌝ }
+    ensures demand_1 { λ r. ⌜ Demand-1-of-cell
+        (lent years cut (now (payments .entry)) (now (adjustments .entry)) (now (weights .entry)) (now (openings .entry)))
+        «accident_year» «development_year» (cell-of r) ⌝ }
+    ensures same_as_future { λ r. ⌜ (verdict-of (r .verdict) ≡ accepted → CellOfFuture
+        (lent years cut (now (payments .entry)) (now (adjustments .entry)) (now (weights .entry)) (now (openings .entry)))
+        «accident_year» «development_year» (cell-of r)) ⌝ }
 {
     let reading = read(
         years,

@@ -18,7 +18,7 @@ use Rattle.method.proofs.Positions.{entry-at}
 use Rattle.method.proofs.Sums.{sum-same}
 use Rattle.method.proofs.SumBounds.{weight-size}
 use Rattle.triangle.specs.declared.ratios.Sums.{Sums}
-use Rattle.triangle.specs.Ratios.{sums-of, no-sums, partial-sums, DevelopmentOf, FirstYear, FirstOutstandings, YearInput, MovedOn}
+use Rattle.triangle.specs.Ratios.{sums-of, no-sums, partial-sums, DevelopmentOf, FirstYear, FirstOutstandings, DevelopmentYearInput, MovedOn}
 use Rattle.triangle.proofs.Places.{blank, one-more-place}
 use Rattle.triangle.proofs.DevelopmentYear.{same-sums}
 
@@ -41,7 +41,7 @@ module _ (t : Triangle) (ok : Observed t) where
 
   pub year-input : (k : ℕ) (outstandings : List ℤ) → 1 ≤ k → k < n t → length outstandings ≡ most-accident-years
       → ((r : ℕ) → r + k ≤ n t → getD outstandings r (pos 0) ≡ R t (suc r) k)
-      → YearInput (n t) k (t .payments) (t .adjustments) (t .weights) outstandings
+      → DevelopmentYearInput (n t) k (t .payments) (t .adjustments) (t .weights) outstandings
   year-input k outstandings p q long e = record {
     most = ok .years .most;
     first = p;

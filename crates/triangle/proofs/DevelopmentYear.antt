@@ -13,7 +13,8 @@ use mir.Syntax.{w64}
 use mir.Val.{SFits}
 use Rattle.integers.proofs.Order.{natAbs-+ℤ}
 use Rattle.integers.proofs.MachineArithmetic.{fits-natAbs}
-use Rattle.method.specs.Limits.{greatest-amount, greatest-outstanding, greatest-term, greatest-sum, most-accident-years}
+use Rattle.method.specs.SumLimits.{greatest-term, greatest-sum}
+use Rattle.method.specs.Limits.{greatest-amount, greatest-outstanding, most-accident-years}
 use Rattle.method.specs.Counting.{sum-to}
 use Rattle.method.specs.Triangle.{amounts-length, cells-before, cell, entry}
 use Rattle.method.specs.Outstandings.{Sums}
@@ -22,7 +23,7 @@ use Rattle.method.proofs.Sums.{sum-none, sum-more}
 use Rattle.method.proofs.SumBounds.{term-size, few-terms}
 use Rattle.outstandings.specs.Observed.{Movable}
 use Rattle.triangle.proofs.Places.{one-more-place}
-use Rattle.triangle.specs.Ratios.{partial-sums, MovedOn, YearInput, with-row, Summable, Addable}
+use Rattle.triangle.specs.Ratios.{partial-sums, MovedOn, DevelopmentYearInput, with-row, Summable, RowAddable}
 
 -- ---- A term and a sum within 64 bits
 
@@ -48,7 +49,7 @@ same-sums a b c = cc
 -- one accident year more
 partial-sums-more : (n k : ℕ) (payments adjustments weights outstandings : List ℤ) (m : ℕ) → partial-sums n k payments adjustments weights outstandings (m + 1)
     ≡ with-row (partial-sums n k payments adjustments weights outstandings m)
-    (cell (n - 1) weights (suc m) k) (cell n payments (suc m) (suc k)) (cell n adjustments (suc m) (suc k)) (entry outstandings (suc m))
+    (cell (pos 0) (n - 1) weights (suc m) k) (cell (pos 0) n payments (suc m) (suc k)) (cell (pos 0) n adjustments (suc m) (suc k)) (entry outstandings (suc m))
 unfolding partial-sums
 partial-sums-more n k payments adjustments weights outstandings m = rw add-one (same-sums (sum-more m _) (sum-more m _) (sum-more m _))
 
@@ -61,10 +62,10 @@ pub record Summed (n k : ℕ) (payments adjustments weights before : List ℤ) (
   pub weight-place : weight-at ≡ cells-before (n - 1) r + (k - 1)
   pub amount-place : amount-at ≡ cells-before n r + k
   pub long : length after ≡ most-accident-years
-  pub moved : (j : ℕ) → j < r → getD after j (pos 0) ≡ getD before j (pos 0) -ℤ cell n payments (suc j) (suc k) +ℤ cell n adjustments (suc j) (suc k)
+  pub moved : (j : ℕ) → j < r → getD after j (pos 0) ≡ getD before j (pos 0) -ℤ cell (pos 0) n payments (suc j) (suc k) +ℤ cell (pos 0) n adjustments (suc j) (suc k)
   pub kept : (j : ℕ) → r ≤ j → getD after j (pos 0) ≡ getD before j (pos 0)
 
-module _ (n k : ℕ) (payments adjustments weights before : List ℤ) (ok : YearInput n k payments adjustments weights before) where
+module _ (n k : ℕ) (payments adjustments weights before : List ℤ) (ok : DevelopmentYearInput n k payments adjustments weights before) where
   pub before-first-row : Summed n k payments adjustments weights before (record { P = pos 0; Q = pos 0; D = pos 0 }) before (k - 1) k 0
   unfolding partial-sums
   before-first-row = record {
@@ -79,11 +80,11 @@ module _ (n k : ℕ) (payments adjustments weights before : List ℤ) (ok : Year
 
   module _ (s : Sums) (after : List ℤ) (weight-at amount-at r : ℕ) (w : Summed n k payments adjustments weights before s after weight-at amount-at r) where
     module _ (l : r + k < n) where
-      weight-of : getD weights weight-at (pos 0) ≡ cell (n - 1) weights (suc r) k
-      weight-of = cell-of-place (n - 1) weights r k weight-at (ok .first) (w .weight-place)
+      weight-of : getD weights weight-at (pos 0) ≡ cell (pos 0) (n - 1) weights (suc r) k
+      weight-of = cell-of-place (pos 0) (n - 1) weights r k weight-at (ok .first) (w .weight-place)
 
-      amount-of : (xs : List ℤ) → getD xs amount-at (pos 0) ≡ cell n xs (suc r) (suc k)
-      amount-of xs = cell-of-place n xs r (suc k) amount-at (omega arith) (omega (arith, w .amount-place))
+      amount-of : (xs : List ℤ) → getD xs amount-at (pos 0) ≡ cell (pos 0) n xs (suc r) (suc k)
+      amount-of xs = cell-of-place (pos 0) n xs r (suc k) amount-at (omega arith) (omega (arith, w .amount-place))
 
       pub weight-inside : weight-at < length weights
       weight-inside =
@@ -94,16 +95,16 @@ module _ (n k : ℕ) (payments adjustments weights before : List ℤ) (ok : Year
 
       -- a sum so far of amounts f 1, …, f r, and the amount x that comes next
       summable : (f : ℕ → ℤ) (x : ℤ) → ((j : ℕ) → j < r → natAbs (f (suc j)) ≤ natAbs greatest-amount) → natAbs x ≤ natAbs greatest-amount
-          → Summable (sum-to r (λ i. cell (n - 1) weights i k *ℤ f i)) (getD weights weight-at (pos 0)) x
+          → Summable (sum-to r (λ i. cell (pos 0) (n - 1) weights i k *ℤ f i)) (getD weights weight-at (pos 0)) x
       summable f x h small = record {
-        sum-size = few-terms r (λ i. cell (n - 1) weights i k *ℤ f i) (omega (arith, ok .most, ok .first)) each;
+        sum-size = few-terms r (λ i. cell (pos 0) (n - 1) weights i k *ℤ f i) (omega (arith, ok .most, ok .first)) each;
         weight-size = rw weight-of (ok .weight-size r l);
         amount-size = small;
       }
         where
-          each : (i : ℕ) → 1 ≤ i → i ≤ r → natAbs (cell (n - 1) weights i k *ℤ f i) ≤ greatest-term
+          each : (i : ℕ) → 1 ≤ i → i ≤ r → natAbs (cell (pos 0) (n - 1) weights i k *ℤ f i) ≤ greatest-term
           each zero p q = absurd (omega arith)
-          each (suc j) p q = term-size (cell (n - 1) weights (suc j) k) (f (suc j)) (ok .weight-size j (omega arith)) (h j (omega arith))
+          each (suc j) p q = term-size (cell (pos 0) (n - 1) weights (suc j) k) (f (suc j)) (ok .weight-size j (omega arith)) (h j (omega arith))
 
       payment-small : natAbs (getD payments amount-at (pos 0)) ≤ natAbs greatest-amount
       payment-small = rw (amount-of payments) (ok .payment-size r l)
@@ -114,11 +115,11 @@ module _ (n k : ℕ) (payments adjustments weights before : List ℤ) (ok : Year
       outstanding-small : natAbs (getD after r (pos 0)) ≤ natAbs greatest-outstanding
       outstanding-small = rw (w .kept r (omega arith)) (ok .outstanding-size r l)
 
-      pub addable : Addable s (getD weights weight-at (pos 0)) (getD payments amount-at (pos 0)) (getD adjustments amount-at (pos 0)) (getD after r (pos 0))
+      pub addable : RowAddable s (getD weights weight-at (pos 0)) (getD payments amount-at (pos 0)) (getD adjustments amount-at (pos 0)) (getD after r (pos 0))
       unfolding partial-sums entry
       addable = rw (w .sums-are) (record {
-        payments = summable (λ i. cell n payments i (suc k)) _ (λ j h. ok .payment-size j (omega arith)) payment-small;
-        adjustments = summable (λ i. cell n adjustments i (suc k)) _ (λ j h. ok .adjustment-size j (omega arith)) adjustment-small;
+        payments = summable (λ i. cell (pos 0) n payments i (suc k)) _ (λ j h. ok .payment-size j (omega arith)) payment-small;
+        adjustments = summable (λ i. cell (pos 0) n adjustments i (suc k)) _ (λ j h. ok .adjustment-size j (omega arith)) adjustment-small;
         exposure = summable (entry before) _ (λ j h. ok .outstanding-size j (omega arith)) outstanding-small;
       })
 
@@ -136,7 +137,7 @@ module _ (n k : ℕ) (payments adjustments weights before : List ℤ) (ok : Year
         weight-place = rw add-one (omega (arith, w .weight-place, cells-before-more (n - 1) r));
         amount-place = rw add-one (omega (arith, w .amount-place, cells-before-more n r));
         long = length-set after r next ∙ w .long;
-        moved = one-more-place (pos 0) (λ j o. o ≡ getD before j (pos 0) -ℤ cell n payments (suc j) (suc k) +ℤ cell n adjustments (suc j) (suc k)) after r next
+        moved = one-more-place (pos 0) (λ j o. o ≡ getD before j (pos 0) -ℤ cell (pos 0) n payments (suc j) (suc k) +ℤ cell (pos 0) n adjustments (suc j) (suc k)) after r next
             (omega (arith, w .long, ok .most)) here (w .moved);
         kept = λ j h. getD-set-other after r j next (pos 0) (λ q. omega arith) ∙ w .kept j (omega arith);
       }
@@ -144,7 +145,7 @@ module _ (n k : ℕ) (payments adjustments weights before : List ℤ) (ok : Year
           same-outstanding : getD after r (pos 0) ≡ entry before (suc r)
           same-outstanding = w .kept r (omega arith) ∙ sym (entry-at before r)
 
-          here : next ≡ getD before r (pos 0) -ℤ cell n payments (suc r) (suc k) +ℤ cell n adjustments (suc r) (suc k)
+          here : next ≡ getD before r (pos 0) -ℤ cell (pos 0) n payments (suc r) (suc k) +ℤ cell (pos 0) n adjustments (suc r) (suc k)
           here = f ∙ rw (w .kept r (omega arith), amount-of payments, amount-of adjustments)
 
     pub all-rows : n ≤ r + k → (s ≡ partial-sums n k payments adjustments weights before (n - k)) × MovedOn n k payments adjustments before after

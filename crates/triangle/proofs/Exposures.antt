@@ -11,7 +11,8 @@ use lib.Signed.{ltZ}
 use Rattle.method.specs.Triangle.{Triangle, n}
 use Rattle.method.specs.Outstandings as meaning
 use Rattle.method.specs.Outstandings.{sums}
-use Rattle.method.specs.Questions.{accepted, refused, at, ask, exposure-positive, question-8}
+use Rattle.method.specs.Verdicts.{accepted, refused, at, ask}
+use Rattle.method.specs.Questions.{question-8}
 use Rattle.method.proofs.FirstRefusal.{ask-yes, ask-no, first-same}
 use Rattle.triangle.specs.declared.ratios.Sums.{Sums}
 use Rattle.triangle.specs.Ratios.{no-sums, DevelopmentOf}
@@ -31,10 +32,10 @@ module _ (years : List Sums) (j : ℕ) where
   exposure-refused e = ask-no _ 8 (at 0 (j + 1)) (ap (λ (x : ℕ). ltZ (pos 0) (getD years x no-sums .exposure)) there ∙ e)
 
 pub question-8-is : (t : Triangle) (years : List Sums) (outstandings : List ℤ) → DevelopmentOf t years outstandings → exposures (n t) years ≡ question-8 t
-unfolding exposures exposure-of-year question-8 exposure-positive
-question-8-is t years outstandings r = first-same (n t - 1) (exposure-of-year years) (λ k. ask (exposure-positive t k) 8 (at 0 k)) same
+unfolding exposures exposure-of-year question-8
+question-8-is t years outstandings r = first-same (n t - 1) (exposure-of-year years) (λ k. ask (ltZ (pos 0) (sums t k .D)) 8 (at 0 k)) same
   where
-    same : (j : ℕ) → j < n t - 1 → exposure-of-year years (suc j) ≡ ask (exposure-positive t (suc j)) 8 (at 0 (suc j))
+    same : (j : ℕ) → j < n t - 1 → exposure-of-year years (suc j) ≡ ask (ltZ (pos 0) (sums t (suc j) .D)) 8 (at 0 (suc j))
     same j l =
         let there : suc j - 1 ≡ j = omega arith in
         ap (λ (x : ℕ). ask (ltZ (pos 0) (getD years x no-sums .exposure)) 8 (at 0 (suc j))) there

@@ -20,7 +20,7 @@ pub record Placed (n : ℕ) (payments adjustments openings outstandings : List �
   pub rows : r ≤ n
   pub start-is : start ≡ cells-before n r
   pub long : length outstandings ≡ most-accident-years
-  pub first : (j : ℕ) → j < r → getD outstandings j (pos 0) ≡ entry openings (suc j) -ℤ cell n payments (suc j) 1 +ℤ cell n adjustments (suc j) 1
+  pub first : (j : ℕ) → j < r → getD outstandings j (pos 0) ≡ entry openings (suc j) -ℤ cell (pos 0) n payments (suc j) 1 +ℤ cell (pos 0) n adjustments (suc j) 1
   pub beyond : (j : ℕ) → r ≤ j → getD outstandings j (pos 0) ≡ pos 0
 
 module _ (n : ℕ) (payments adjustments openings : List ℤ) (ok : FirstYear n payments adjustments openings) where
@@ -35,8 +35,8 @@ module _ (n : ℕ) (payments adjustments openings : List ℤ) (ok : FirstYear n 
 
   module _ (outstandings : List ℤ) (start r : ℕ) (p : Placed n payments adjustments openings outstandings start r) where
     module _ (l : r < n) where
-      first-cell : (xs : List ℤ) → getD xs start (pos 0) ≡ cell n xs (suc r) 1
-      first-cell xs = cell-of-place n xs r 1 start (omega arith) (omega (arith, p .start-is))
+      first-cell : (xs : List ℤ) → getD xs start (pos 0) ≡ cell (pos 0) n xs (suc r) 1
+      first-cell xs = cell-of-place (pos 0) n xs r 1 start (omega arith) (omega (arith, p .start-is))
 
       pub first-inside : start < amounts-length n
       first-inside = omega (arith, p .start-is, cell-inside n r 0 (omega arith))
@@ -56,12 +56,12 @@ module _ (n : ℕ) (payments adjustments openings : List ℤ) (ok : FirstYear n 
         rows = omega arith;
         start-is = rw add-one (omega (arith, p .start-is, cells-before-more n r));
         long = length-set outstandings r next ∙ p .long;
-        first = one-more-place (pos 0) (λ j o. o ≡ entry openings (suc j) -ℤ cell n payments (suc j) 1 +ℤ cell n adjustments (suc j) 1) outstandings r next
+        first = one-more-place (pos 0) (λ j o. o ≡ entry openings (suc j) -ℤ cell (pos 0) n payments (suc j) 1 +ℤ cell (pos 0) n adjustments (suc j) 1) outstandings r next
             (omega (arith, p .long, ok .most)) here (p .first);
         beyond = λ j h. getD-set-other outstandings r j next (pos 0) (λ same. omega (arith, same)) ∙ p .beyond j (omega arith);
       }
         where
-          here : next ≡ entry openings (suc r) -ℤ cell n payments (suc r) 1 +ℤ cell n adjustments (suc r) 1
+          here : next ≡ entry openings (suc r) -ℤ cell (pos 0) n payments (suc r) 1 +ℤ cell (pos 0) n adjustments (suc r) 1
           here = e ∙ rw (first-cell payments, first-cell adjustments)
 
     pub all-placed : n ≤ r → FirstOutstandings n payments adjustments openings outstandings

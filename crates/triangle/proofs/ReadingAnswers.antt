@@ -5,7 +5,8 @@ use mathlib.Core.List.{List}
 use Prim.Native.Nat.{ℕ}
 use lib.IntN.{ℤ, natAbs}
 use Rattle.method.specs.Triangle.{Triangle}
-use Rattle.method.specs.Questions.{Place, Verdict, accepted, refused, input-lengths-right, input-questions, observed-questions}
+use Rattle.method.specs.Verdicts.{Place, Verdict, accepted, refused}
+use Rattle.method.specs.Questions.{input-lengths-right, input-questions, observed-questions}
 use Rattle.method.proofs.QuestionFacts as facts
 use Rattle.method.proofs.QuestionFacts.{Observed, observed-triangle}
 use Rattle.verdicts.specs.declared.verdict.Verdict as code
@@ -41,10 +42,10 @@ module _ (years cut : ℤ) (payments adjustments weights openings : List ℤ) (a
 
     pub readable : Readable (natAbs years) payments adjustments weights openings
     readable =
-        let yes : lists-right t answers ≡ true = facts.lists-right t (lists-right t answers) e in
+        let yes : lists-right t answers ≡ true = facts.question-3-said-yes t (lists-right t answers) e in
         record {
           cut = natAbs cut;
-          lists-right = subst (λ (x : Triangle). input-lengths-right x ≡ true) same (inputs-right t answers yes);
+          inputs-right = subst (λ (x : Triangle). input-lengths-right x ≡ true) same (inputs-right t answers yes);
           passed = subst (λ (x : Triangle). input-questions x true ≡ accepted) same (ap (input-questions t) (sym yes) ∙ e);
         }
 

@@ -9,7 +9,7 @@ use lib.ListN.{length, getD, List·getD-eq-default}
 use lib.Seq.{ext-getD}
 use Rattle.method.specs.Limits.{most-accident-years, most-ratios}
 use Rattle.method.specs.Triangle.{Triangle, n}
-use Rattle.method.specs.Questions.{accepted}
+use Rattle.method.specs.Verdicts.{accepted}
 use Rattle.triangle.specs.declared.ratios.Development.{Development}
 use Rattle.triangle.specs.Ratios.{sums-of, no-sums, DevelopmentOf}
 use Rattle.triangle.specs.Reading.{values, as-sums, ratios-at, outstanding-at, development}

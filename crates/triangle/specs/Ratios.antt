@@ -6,12 +6,14 @@ use mathlib.Core.List.{List}
 use Prim.Native.Nat.{ℕ, suc, _+_, _-_, _≤_, _<_}
 use lib.IntN.{ℤ, pos, _+ℤ_, _-ℤ_, _*ℤ_, natAbs}
 use lib.ListN.{length, getD}
-use Rattle.method.specs.Limits.{most-accident-years, most-ratios, greatest-weight, greatest-amount, greatest-outstanding, greatest-sum}
+use Rattle.method.specs.SumLimits.{greatest-sum}
+use Rattle.method.specs.Limits.{most-accident-years, most-ratios, greatest-weight, greatest-amount, greatest-outstanding}
 use Rattle.method.specs.Counting.{sum-to}
 use Rattle.method.specs.Triangle.{Triangle, n, amounts-length, weights-length, cell, entry}
 use Rattle.method.specs.Outstandings as meaning
 use Rattle.method.specs.Outstandings.{R, sums}
-use Rattle.method.specs.Questions.{accepted, input-lengths-right, input-questions}
+use Rattle.method.specs.Verdicts.{accepted}
+use Rattle.method.specs.Questions.{input-lengths-right, input-questions}
 use Rattle.triangle.specs.declared.ratios.Sums.{Sums}
 use Rattle.questions.specs.Lent.{counted}
 
@@ -37,7 +39,7 @@ pub record DevelopmentOf (t : Triangle) (ratios : List Sums) (outstandings : Lis
 -- a triangle that has passed questions 1 to 7; its cut is not needed to form a ratio
 pub record Readable (n : ℕ) (payments adjustments weights openings : List ℤ) : Type 0 where
   pub cut : ℕ
-  pub lists-right : input-lengths-right (counted n cut payments adjustments weights openings) ≡ true
+  pub inputs-right : input-lengths-right (counted n cut payments adjustments weights openings) ≡ true
   pub passed : input-questions (counted n cut payments adjustments weights openings) true ≡ accepted
 
 pub record DevelopmentRead (n : ℕ) (payments adjustments weights openings : List ℤ) (ratios : List Sums) (outstandings : List ℤ) : Type 0 where
@@ -49,13 +51,13 @@ pub record FirstYear (n : ℕ) (payments adjustments openings : List ℤ) : Type
   pub most : n ≤ most-accident-years
   pub payments-length : length payments ≡ amounts-length n
   pub adjustments-length : length adjustments ≡ amounts-length n
-  pub payment-size : (r : ℕ) → r < n → natAbs (cell n payments (suc r) 1) ≤ natAbs greatest-amount
-  pub adjustment-size : (r : ℕ) → r < n → natAbs (cell n adjustments (suc r) 1) ≤ natAbs greatest-amount
+  pub payment-size : (r : ℕ) → r < n → natAbs (cell (pos 0) n payments (suc r) 1) ≤ natAbs greatest-amount
+  pub adjustment-size : (r : ℕ) → r < n → natAbs (cell (pos 0) n adjustments (suc r) 1) ≤ natAbs greatest-amount
   pub opening-size : (r : ℕ) → r < n → natAbs (entry openings (suc r)) ≤ natAbs greatest-outstanding
 
 pub record FirstOutstandings (n : ℕ) (payments adjustments openings outstandings : List ℤ) : Type 0 where
   pub first : (r : ℕ) → r < n
-      → getD outstandings r (pos 0) ≡ entry openings (suc r) -ℤ cell n payments (suc r) 1 +ℤ cell n adjustments (suc r) 1
+      → getD outstandings r (pos 0) ≡ entry openings (suc r) -ℤ cell (pos 0) n payments (suc r) 1 +ℤ cell (pos 0) n adjustments (suc r) 1
   pub beyond : (r : ℕ) → n ≤ r → getD outstandings r (pos 0) ≡ pos 0
   pub long : length outstandings ≡ most-accident-years
 
@@ -64,28 +66,28 @@ pub record FirstOutstandings (n : ℕ) (payments adjustments openings outstandin
 -- the sums of development year k over the first m accident years, from the outstandings of that year
 unfoldable pub partial-sums : ℕ → ℕ → List ℤ → List ℤ → List ℤ → List ℤ → ℕ → meaning.Sums
 partial-sums n k payments adjustments weights outstandings m = record {
-  P = sum-to m (λ i. cell (n - 1) weights i k *ℤ cell n payments i (suc k));
-  Q = sum-to m (λ i. cell (n - 1) weights i k *ℤ cell n adjustments i (suc k));
-  D = sum-to m (λ i. cell (n - 1) weights i k *ℤ entry outstandings i);
+  P = sum-to m (λ i. cell (pos 0) (n - 1) weights i k *ℤ cell (pos 0) n payments i (suc k));
+  Q = sum-to m (λ i. cell (pos 0) (n - 1) weights i k *ℤ cell (pos 0) n adjustments i (suc k));
+  D = sum-to m (λ i. cell (pos 0) (n - 1) weights i k *ℤ entry outstandings i);
 }
 
 -- the outstandings of year k + 1 where that year is observed, and the others as they were
 pub record MovedOn (n k : ℕ) (payments adjustments before after : List ℤ) : Type 0 where
   pub moved : (r : ℕ) → r + k < n
-      → getD after r (pos 0) ≡ getD before r (pos 0) -ℤ cell n payments (suc r) (suc k) +ℤ cell n adjustments (suc r) (suc k)
+      → getD after r (pos 0) ≡ getD before r (pos 0) -ℤ cell (pos 0) n payments (suc r) (suc k) +ℤ cell (pos 0) n adjustments (suc r) (suc k)
   pub kept : (r : ℕ) → n ≤ r + k → getD after r (pos 0) ≡ getD before r (pos 0)
   pub long : length after ≡ most-accident-years
 
-pub record YearInput (n k : ℕ) (payments adjustments weights outstandings : List ℤ) : Type 0 where
+pub record DevelopmentYearInput (n k : ℕ) (payments adjustments weights outstandings : List ℤ) : Type 0 where
   pub most : n ≤ most-accident-years
   pub first : 1 ≤ k
   pub last : k < n
   pub payments-length : length payments ≡ amounts-length n
   pub adjustments-length : length adjustments ≡ amounts-length n
   pub weights-length-right : length weights ≡ weights-length n
-  pub weight-size : (r : ℕ) → r + k < n → natAbs (cell (n - 1) weights (suc r) k) ≤ natAbs greatest-weight
-  pub payment-size : (r : ℕ) → r + k < n → natAbs (cell n payments (suc r) (suc k)) ≤ natAbs greatest-amount
-  pub adjustment-size : (r : ℕ) → r + k < n → natAbs (cell n adjustments (suc r) (suc k)) ≤ natAbs greatest-amount
+  pub weight-size : (r : ℕ) → r + k < n → natAbs (cell (pos 0) (n - 1) weights (suc r) k) ≤ natAbs greatest-weight
+  pub payment-size : (r : ℕ) → r + k < n → natAbs (cell (pos 0) n payments (suc r) (suc k)) ≤ natAbs greatest-amount
+  pub adjustment-size : (r : ℕ) → r + k < n → natAbs (cell (pos 0) n adjustments (suc r) (suc k)) ≤ natAbs greatest-amount
   pub outstanding-size : (r : ℕ) → r + k < n → natAbs (getD outstandings r (pos 0)) ≤ natAbs greatest-outstanding
   pub outstandings-length : length outstandings ≡ most-accident-years
 
@@ -103,7 +105,7 @@ pub record Summable (sum weight amount : ℤ) : Type 0 where
   pub weight-size : natAbs weight ≤ natAbs greatest-weight
   pub amount-size : natAbs amount ≤ natAbs greatest-amount
 
-pub record Addable (s : meaning.Sums) (weight payment adjustment outstanding : ℤ) : Type 0 where
+pub record RowAddable (s : meaning.Sums) (weight payment adjustment outstanding : ℤ) : Type 0 where
   pub payments : Summable (s .P) weight payment
   pub adjustments : Summable (s .Q) weight adjustment
   pub exposure : Summable (s .D) weight outstanding

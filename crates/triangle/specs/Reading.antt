@@ -11,7 +11,8 @@ use Rattle.method.specs.Limits.{most-accident-years, most-ratios}
 use Rattle.method.specs.Triangle.{Triangle, n}
 use Rattle.method.specs.Outstandings.{R, sums}
 use Rattle.method.specs.Outstandings as meaning
-use Rattle.method.specs.Questions.{Verdict, accepted, refused, at, ask, first-to, observed-questions}
+use Rattle.method.specs.Verdicts.{Verdict, accepted, refused, at, ask, first-to}
+use Rattle.method.specs.Questions.{observed-questions}
 use Rattle.verdicts.specs.Verdicts.{verdict-of}
 use Rattle.questions.specs.declared.inputs.AnswerLists.{AnswerLists}
 use Rattle.questions.specs.Lent.{lists-right}

@@ -2,7 +2,7 @@
 ghost use mathlib.Core.Path.{_≡_};
 ghost use lib.IntN.{_+ℤ_, _*ℤ_};
 ghost use Prim.Native.Nat.{_-_, _≤_};
-ghost use Rattle.triangle.specs.Ratios.{Readable, DevelopmentRead, FirstYear, FirstOutstandings, YearInput, partial-sums, MovedOn, sums-of, Addable, with-row, Summable};
+ghost use Rattle.triangle.specs.Ratios.{Readable, DevelopmentRead, FirstYear, FirstOutstandings, DevelopmentYearInput, partial-sums, MovedOn, sums-of, RowAddable, with-row, Summable};
 use outstandings::next_outstanding;
 use outstandings::opening_of;
 use verdicts::limits::ACCIDENT_YEARS;
@@ -88,7 +88,7 @@ fn development_year<'a>(
     weights: &'a [i64],
     outstandings: &mut [i64; ACCIDENT_YEARS],
 ) -> Sums
-    requires { ⌜ YearInput n k (now payments) (now adjustments) (now weights) (now outstandings) ⌝ }
+    requires { ⌜ DevelopmentYearInput n k (now payments) (now adjustments) (now weights) (now outstandings) ⌝ }
     ensures { λ r. ⌜ sums-of r ≡ partial-sums n k (now (payments .entry)) (now (adjustments .entry)) (now (weights .entry)) (now (outstandings .entry)) (n - k) ⌝ }
     ensures { λ _. ⌜ MovedOn n k (now (payments .entry)) (now (adjustments .entry)) (now (outstandings .entry)) (now (outstandings .exit)) ⌝ }
 {
@@ -122,7 +122,7 @@ fn summed_years(n: usize, k: usize) -> usize
 
 // The sums with one accident year more.
 fn added(sums: Sums, weight: i64, payment: i64, adjustment: i64, outstanding: i64) -> Sums
-    requires { ⌜ Addable (sums-of sums) weight payment adjustment outstanding ⌝ }
+    requires { ⌜ RowAddable (sums-of sums) weight payment adjustment outstanding ⌝ }
     ensures { λ r. ⌜ sums-of r ≡ with-row (sums-of sums) weight payment adjustment outstanding ⌝ }
 {
     Sums {

@@ -11,7 +11,7 @@ use Rattle.headings.specs.Kinds.{heading-of, kind-of}
 use Rattle.headings.specs.Places.{from-heading, number-after-lines, rows-in, number-after, is-cumulated}
 use Rattle.headings.specs.Faults.{is-number, is-no-word, says-how, amount-words, cut-words, cell-words, no-words, fault-after}
 use Rattle.row_text.specs.Rows.{occurrences, numbers-from, openings-from}
-use Rattle.method.specs.Questions.{years-in-range, cut-in-range}
+use Rattle.method.specs.Tests.{years-in-range, cut-in-range}
 use Rattle.triangle_text.specs.Blocks.{block-from, default-row, default-from}
 use Rattle.triangle_text.specs.Reading.{lists-wanted, triangle-under, weights-under, asked-in, lists-in, with-headings, reading-of, without-mark, reading}
 use Rattle.triangle_text.specs.Examples.{Texts-hold}

@@ -20,7 +20,9 @@ use Rattle.headings.specs.declared.faults.HeadingFault.{HeadingFault}
 use Rattle.headings.specs.declared.faults.FirstFault as heading
 use Rattle.method.specs.Limits.{most-accident-years}
 use Rattle.method.specs.Triangle.{amounts-length}
-use Rattle.method.specs.Questions.{ask, years-in-range, cut-in-range, question-1, question-2}
+use Rattle.method.specs.Verdicts.{ask}
+use Rattle.method.specs.Tests.{years-in-range, cut-in-range}
+use Rattle.method.specs.Questions.{question-1, question-2}
 use Rattle.method.proofs.Tests.{and-true}
 use Rattle.method.proofs.QuestionFacts.{YearsInRange, CutInRange, years-accepted, cut-accepted}
 use Rattle.triangle_text.specs.Blocks.{Block, numbers, faulty, BlockReadAs}

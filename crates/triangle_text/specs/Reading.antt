@@ -16,7 +16,7 @@ use Rattle.headings.specs.declared.faults.FirstFault.{FirstFault}
 use Rattle.headings.specs.declared.faults.FirstFault as heading
 use Rattle.method.specs.Limits.{most-accident-years}
 use Rattle.method.specs.Triangle.{amounts-length, weights-length}
-use Rattle.method.specs.Questions.{years-in-range, cut-in-range}
+use Rattle.method.specs.Tests.{years-in-range, cut-in-range}
 use Rattle.triangle_text.specs.Blocks.{Block, numbers, faulty, block-from, default-weights}
 use Rattle.triangle_text.specs.declared.faults.Expected.{Expected}
 use Rattle.triangle_text.specs.declared.faults.Expected.the-variants.{InHeading, Incremental}

@@ -1,5 +1,5 @@
 -- What the code's verdict says, in document 01's numbers and places.
-use Rattle.method.specs.Questions as meaning
+use Rattle.method.specs.Verdicts as meaning
 use Rattle.verdicts.specs.declared.verdict.Place.{Place}
 use Rattle.verdicts.specs.declared.verdict.Verdict.{Verdict}
 use Rattle.verdicts.specs.declared.verdict.Verdict.the-variants.{Accepted, Refused}

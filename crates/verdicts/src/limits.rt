@@ -1,6 +1,6 @@
 // The limits of document 01, each named once, and the test of a range.
 ghost use mathlib.Core.Path.{_≡_};
-ghost use Rattle.method.specs.Questions.{from-to};
+ghost use Rattle.method.specs.Tests.{from-to};
 
 pub const FEWEST_YEARS: i64 = 2;
 
@@ -13,6 +13,9 @@ pub const GREATEST_AMOUNT: i64 = 1_000_000_000;
 
 // Of an opening or observed outstanding, in whole units.
 pub const GREATEST_OUTSTANDING: i64 = 1_000_000_000;
+
+// Of a projected figure, in millionths of a unit, of either sign.
+pub const GREATEST_FIGURE: i64 = 10_000_000_000_000_000;
 
 // Room for the last observed outstanding of every accident year, and for the sums of every development year but the last.
 pub const ACCIDENT_YEARS: usize = 32;

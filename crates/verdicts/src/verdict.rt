@@ -2,8 +2,8 @@
 ghost use mathlib.Core.Path.{_≡_};
 ghost use Prim.Native.Nat.{_≤_};
 ghost use Rattle.method.specs.Limits.{most-accident-years};
-ghost use Rattle.method.specs.Questions.{at, nowhere};
-ghost use Rattle.method.specs.Questions as meaning;
+ghost use Rattle.method.specs.Verdicts.{at, nowhere};
+ghost use Rattle.method.specs.Verdicts as meaning;
 ghost use Rattle.verdicts.specs.Verdicts.{verdict-of};
 
 // An accident year and a development year; 0 where there is none.

@@ -2,7 +2,7 @@
 use mathlib.Core.Path.{_≡_, ap, sym, _∙_}
 use Prim.Native.Nat.{_+_, _-_, _≤_}
 use lib.ListN.{length}
-use Rattle.method.specs.Questions.{each-cell}
+use Rattle.method.specs.Verdicts.{each-cell}
 use Rattle.method.proofs.Rows.{part-length}
 use Rattle.cells.specs.Cells.{row-of-list, whole-list}
 use Rattle.method.proofs.FirstRefusal.{next-refused, all-accepted}

@@ -5,7 +5,7 @@ use native.Mathlib.Omega.{arith}
 use lib.IntN.{pos}
 use lib.ListN.{length, getD}
 use Rattle.integers.proofs.MachineArithmetic.{held}
-use Rattle.method.specs.Questions.{refused, at}
+use Rattle.method.specs.Verdicts.{refused, at}
 use Rattle.method.proofs.FirstRefusal.{PassedSoFar, none-asked, next-accepted, next-refused, all-accepted}
 use Rattle.cells.specs.Cells.{passes, cell-of-row, row-of-list}
 use Rattle.cells.proofs.CellTests.{cell-passed, cell-refused}

@@ -22,7 +22,7 @@ returns c =
     let r = c .before .before .before in
     let s = r .before .before .before in
     let e = simp (toZ-ofZ (s .fits .years), toZ-ofZ (s .fits .cut)) at (r .reserve .ensures) in
-    reserve-answered _ _ _ (e .0) (c .verdict-answer .result) (c .verdict-answer .ensures) (e .1 .0)
+    reserve-answered _ _ _ e (c .verdict-answer .result) (c .verdict-answer .ensures)
 
 pub juniperprow-reserve-spec : {M : Type 1} → statement M
 juniperprow-reserve-spec =

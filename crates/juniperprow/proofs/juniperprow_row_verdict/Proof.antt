@@ -1,8 +1,7 @@
 -- The call, and its verdict as a number and a place.
 use borrow.Author.Needs.{needs}
-use mathlib.Core.Path.{ap, _∙_}
 use mir.Facts.{toZ-ofZ}
-use Rattle.juniperprow.specs.HostAnswers.{verdict-answer}
+use Rattle.juniperprow.proofs.HostVerdicts.{row-answered}
 use Rattle.juniperprow.proofs.juniperprow_row_verdict.Statement.{statement}
 use Rattle.juniperprow.proofs.juniperprow_row_verdict.Tie as tie
 
@@ -15,7 +14,8 @@ verdict-answer-requires c κs = search needs
 returns : tie.Need-returns
 returns c =
     let s = c .before .before in
-    c .verdict-answer .ensures ∙ ap verdict-answer (simp (toZ-ofZ (s .fits .years), toZ-ofZ (s .fits .accident-year)) at (c .before .row-verdict .ensures))
+    row-answered _ _ _ _ (simp (toZ-ofZ (s .fits .years), toZ-ofZ (s .fits .accident-year)) at (c .before .row-verdict .ensures))
+    (c .verdict-answer .result) (c .verdict-answer .ensures)
 
 pub juniperprow-row-verdict-spec : {M : Type 1} → statement M
 juniperprow-row-verdict-spec =

@@ -6,7 +6,7 @@ use mir.Syntax.{w64}
 use mir.Facts.{toZ-pos}
 use Rattle.integers.proofs.MachineArithmetic.{held}
 use Rattle.juniperprow.specs.HostAnswers.{verdict-answer}
-use Rattle.method.specs.Questions.{number, place}
+use Rattle.method.specs.Verdicts.{number, place}
 use Rattle.juniperprow.proofs.verdict_answer.Statement.{statement}
 use Rattle.juniperprow.proofs.verdict_answer.Tie as tie
 

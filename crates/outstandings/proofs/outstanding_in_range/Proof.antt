@@ -5,6 +5,7 @@ use mathlib.Core.Bool.{not, _||_}
 use Prim.Native.Nat.{_+_}
 use lib.Dec.{leb}
 use mir.Facts.{toZ-ofZ}
+use Rattle.method.specs.Tests.{known, outstanding-in-range}
 use Rattle.outstandings.proofs.outstanding_in_range.Statement.{statement}
 use Rattle.outstandings.proofs.outstanding_in_range.Tie as tie
 
@@ -15,6 +16,7 @@ from-to-requires : tie.Need-from-to-requires
 from-to-requires c κs = search needs
 
 returns : tie.Need-returns
+unfolding outstanding-in-range known
 returns c =
     let a = c .before .args in
     let in-range = simp (toZ-ofZ (c .before .fits .outstanding)) at (c .from-to .ensures) in

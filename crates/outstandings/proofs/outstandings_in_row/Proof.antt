@@ -10,7 +10,7 @@ use mir.Syntax.{w64}
 use mir.Val.{toZ, ofZ}
 use mir.Facts.{toZ-ofZ}
 use Rattle.integers.proofs.MachineArithmetic.{held}
-use Rattle.outstandings.specs.Observed.{in-range-where-known}
+use Rattle.method.specs.Tests.{outstanding-in-range}
 use Rattle.outstandings.proofs.RowOutstandings.{YearsPassed, before-first-year, movable, next-year-passed, next-year-refused, all-years-passed}
 use Rattle.outstandings.proofs.outstandings_in_row.Statement.{statement}
 use Rattle.outstandings.proofs.outstandings_in_row.Tie as tie
@@ -74,7 +74,7 @@ moved c =
 tested : (c : tie.After-outstanding-in-range Inv-loop μ-loop) →
     let a = c .before .before .before .before .before .before .args in
     c .outstanding-in-range .result
-    ≡ in-range-where-known (a .cut) (a .i) (c .before .before .before .before .before .loop .j + 1) (toZ w64 (ofZ w64 (c .before .next-outstanding .result)))
+    ≡ outstanding-in-range (a .cut) (a .i) (c .before .before .before .before .before .loop .j + 1) (toZ w64 (ofZ w64 (c .before .next-outstanding .result)))
 tested c = c .outstanding-in-range .ensures
 
 add-outstanding-in-range : tie.Need-add-outstanding-in-range Inv-loop μ-loop

@@ -1,9 +1,9 @@
 -- Empty where it is refused, and else the part that `row_of` finds.
 use borrow.Author.Needs.{needs}
-use mathlib.Core.Path.{_≡_, sym, ap, _∙_}
+use mathlib.Core.Path.{_≡_, refl, sym, ap, _∙_}
 use native.Mathlib.Omega.{arith}
 use mir.Facts.{toZ-ofZ}
-use Rattle.method.specs.Questions.{accepted}
+use Rattle.method.specs.Verdicts.{accepted}
 use Rattle.method.specs.Answers.{row-verdict}
 use Rattle.method.proofs.FirstRefusal.{not-both}
 use Rattle.method.proofs.Rows.{RowAccepted, row-accepted}
@@ -20,7 +20,7 @@ began c = c .before .before .before .before
 
 asked : (c : tie.After-row-verdict) → let a = c .before .before .args in
     verdict-of (c .row-verdict .result) ≡ row-verdict (a .years) (a .payments .now) (a .adjustments .now) (a .accident-year)
-asked c = simp (toZ-ofZ (c .before .before .fits .years), toZ-ofZ (c .before .before .fits .accident-year)) at (c .row-verdict .ensures)
+asked c = simp (toZ-ofZ (c .before .before .fits .years), toZ-ofZ (c .before .before .fits .accident-year)) at (c .row-verdict .ensures .0)
 
 passed : (c : tie.After-enum-told) → let a = began c .args in
     row-verdict (a .years) (a .payments .now) (a .adjustments .now) (a .accident-year) ≡ accepted
@@ -58,6 +58,7 @@ returns c =
     let no = sym (asked (c .before .before .before)) ∙ ap verdict-of (c .before .enum-told2 .given .1) in
     record {
       holds = refused-row _ _ _ _ (amounts-of (c .before .before .before .before .before .args .named)) no;
+      empty-where-refused = λ _. refl;
       own-part = λ yes. absurd (not-both yes no);
     }
 
@@ -82,6 +83,7 @@ returns-2 c =
     record {
       holds = (simp (toZ-ofZ (s .fits .years), toZ-ofZ (s .fits .accident-year), list, named-holds) at (c .row-of .ensures .0))
           ∙ accepted-row (s .args .years) _ _ (s .args .accident-year) (amounts-of (s .args .named)) (passed (c .before));
+      empty-where-refused = λ no. absurd (no (passed (c .before)));
       own-part = λ yes. simp (toZ-ofZ (s .fits .years), toZ-ofZ (s .fits .accident-year), list) at (c .row-of .ensures .1);
     }
 

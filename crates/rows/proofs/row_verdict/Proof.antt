@@ -2,8 +2,11 @@
 use borrow.Author.Needs.{needs}
 use mathlib.Core.Path.{_≡_, sym, ap, _∙_}
 use mir.Facts.{toZ-ofZ}
-use Rattle.method.specs.Questions.{accepted, nowhere, ask, question-1, question-3, accident-year-in-range, question-10}
+use Rattle.method.specs.Verdicts.{Verdict, accepted, nowhere, ask}
+use Rattle.method.specs.Questions.{question-1, question-3, accident-year-in-range, question-10}
 use Rattle.method.specs.Answers.{both-lengths-right, row-verdict}
+use Rattle.method.specs.Demand1.{Demand-1-of-row}
+use Rattle.method.proofs.Demands.{demand-1-of-row-verdict}
 use Rattle.method.proofs.FirstRefusal.{stopped, went-on}
 use Rattle.method.proofs.QuestionFacts.{YearsInRange, years-accepted}
 use Rattle.verdicts.specs.Verdicts.{verdict-of}
@@ -48,6 +51,12 @@ ten c =
     let in-range = simp (toZ-ofZ (s .fits .years), toZ-ofZ (s .fits .accident-year)) at (c .before .from-to .ensures) in
     c .asked2 .ensures ∙ ap (λ b. ask b 10 nowhere) in-range
 
+-- demand 1 comes with the verdict
+with-demand-1 : (s : tie.Start) {v : Verdict} → let a = s .args in v ≡ row-verdict (a .years) (a .payments .now) (a .adjustments .now) (a .accident-year)
+    → (v ≡ row-verdict (a .years) (a .payments .now) (a .adjustments .now) (a .accident-year))
+    × Demand-1-of-row (a .years) (a .payments .now) (a .adjustments .now) (a .accident-year) v
+with-demand-1 s e = (e, demand-1-of-row-verdict _ _ _ _ e)
+
 question-1-requires : tie.Need-question-1-requires
 question-1-requires c κs = search needs
 
@@ -59,7 +68,7 @@ enum-told-2 c = search needs
 
 returns : tie.Need-returns
 unfolding row-verdict
-returns c = stopped _ (one (c .before .before)) (ap verdict-of (c .enum-told2 .given .1))
+returns c = with-demand-1 (c .before .before .before) (stopped _ (one (c .before .before)) (ap verdict-of (c .enum-told2 .given .1)))
 
 cast-both-lengths-right : tie.Need-cast-both-lengths-right
 cast-both-lengths-right c = simp (toZ-ofZ (began₁ c .fits .years))
@@ -79,7 +88,9 @@ enum-told-4 c = search needs
 
 returns-2 : tie.Need-returns-2
 unfolding row-verdict
-returns-2 c = went-on (passed-one (c .before .before .before .before)) (stopped _ (three (c .before .before)) (ap verdict-of (c .enum-told4 .given .1)))
+returns-2 c =
+    let told = c .before .before .before .before in
+    with-demand-1 (began₁ told) (went-on (passed-one told) (stopped _ (three (c .before .before)) (ap verdict-of (c .enum-told4 .given .1))))
 
 from-to-requires : tie.Need-from-to-requires
 from-to-requires c κs = search needs
@@ -89,7 +100,9 @@ asked-requires-2 c κs = search needs
 
 returns-3 : tie.Need-returns-3
 unfolding row-verdict
-returns-3 c = went-on (passed-one (c .before .before .before .before .before .before)) (went-on (passed-three (c .before .before)) (ten c))
+returns-3 c =
+    let told = c .before .before .before .before .before .before in
+    with-demand-1 (began₁ told) (went-on (passed-one told) (went-on (passed-three (c .before .before)) (ten c)))
 
 pub row-verdict-spec : {M : Type 1} → statement M
 row-verdict-spec =

@@ -3,7 +3,7 @@ use borrow.Author.Needs.{needs}
 use Prim.Native.Nat.{ℕ, _*_, _/_, _%_, _≤_}
 use native.Mathlib.Nat.{mul-le-mul}
 use native.Mathlib.Omega.{arith}
-use Rattle.method.specs.Limits.{greatest-sum}
+use Rattle.method.specs.SumLimits.{greatest-sum}
 use Rattle.share.specs.LongDivision.{DivisionInput}
 use Rattle.share.proofs.LongDivision.{first-digit, digit-more, last-digit}
 use Rattle.share.proofs.in_three_digits.Statement.{statement}

@@ -3,8 +3,9 @@ use mathlib.Core.Path.{_≡_, sym, ap, _∙_}
 use lib.IntN.{pos, negℤ}
 use mir.Syntax.{w64}
 use mir.Facts.{toZ-ofZ}
-use Rattle.method.specs.Limits.{greatest-figure, greatest-sum}
-use Rattle.method.specs.Questions.{from-to}
+use Rattle.method.specs.SumLimits.{greatest-sum}
+use Rattle.method.specs.Limits.{greatest-figure}
+use Rattle.method.specs.Tests.{from-to}
 use Rattle.share_benchmark.specs.ShareAnswer.{as-answer, share-answer}
 use Rattle.share_benchmark.proofs.Ranges.{share-input}
 use borrow.Author.Needs.{needs}

@@ -6,10 +6,10 @@ use native.Mathlib.Omega.{arith}
 use lib.IntN.{pos}
 use lib.ListN.{getD}
 use Rattle.integers.proofs.MachineArithmetic.{Held, held}
-use Rattle.method.specs.Questions.{accepted}
+use Rattle.method.specs.Verdicts.{accepted}
 use Rattle.method.specs.Answers.{CellAnswer}
 use Rattle.projection.specs.declared.year.Movement.{Movement}
-use Rattle.calls.specs.Rows.{observed-of}
+use Rattle.calls.specs.ProjectedRows.{observed-of}
 use Rattle.calls.proofs.RowLoop.{units-small}
 use Rattle.single_cell.proofs.WholeCells.{row-of-cell, in-units, later-year, cell-input}
 use Rattle.single_cell.proofs.cell_of.Statement.{statement}

@@ -3,7 +3,7 @@ use borrow.Author.Needs.{needs}
 use mathlib.Core.Path.{_≡_, sym, _∙_}
 use lib.IntN.{pos}
 use mir.Facts.{toZ-ofZ}
-use Rattle.method.specs.Questions.{from-to}
+use Rattle.method.specs.Tests.{from-to}
 use Rattle.method.proofs.QuestionFacts.{YearsInRange, years-accepted}
 use Rattle.single_cell.proofs.UnseenCells.{in-range-unseen, out-of-range-unseen, years-fit, first-unseen-fits}
 use Rattle.single_cell.proofs.cell_unseen.Statement.{statement}

@@ -8,7 +8,8 @@ use lib.ListN.{length, getD}
 use Rattle.integers.proofs.MachineArithmetic.{Held, held}
 use Rattle.method.proofs.FirstRefusal.{PassedSoFar, none-asked, next-accepted, next-refused, all-accepted}
 use Rattle.verdicts.specs.Verdicts.{verdict-of}
-use Rattle.calls.specs.Rows.{verdict-of-row}
+use Rattle.calls.specs.ProjectedRows.{verdict-of-row}
+use Rattle.calls.proofs.RowLoop.{row-list-length}
 use Rattle.calls.proofs.RowsLoop.{row-input, row-verdict-is}
 use Rattle.single_cell.proofs.question_9.Statement.{statement}
 use Rattle.single_cell.proofs.question_9.Tie as tie
@@ -86,7 +87,7 @@ loop-again c =
     let p = c .before .before .before in
     let l = p .before .before .before .before .loop in (
       next-accepted (l .inv .0) (omega arith) (said p ∙ ap verdict-of (c .enum-told .given .1)),
-      p .project-row .ensures .same-length ∙ l .inv .1,
+      row-list-length (p .project-row .ensures) ∙ l .inv .1,
     )
 
 returns-2 : tie.Need-returns-2 Inv-loop μ-loop

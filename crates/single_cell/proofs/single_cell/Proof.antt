@@ -5,7 +5,8 @@ use native.Mathlib.Omega.{arith}
 use lib.IntN.{natAbs}
 use mir.Facts.{toZ-ofZ}
 use Rattle.method.specs.Triangle.{Triangle}
-use Rattle.method.specs.Questions.{accepted, questions, question-10, input-lengths-right, cell-unseen}
+use Rattle.method.specs.Verdicts.{accepted}
+use Rattle.method.specs.Questions.{questions, question-10, input-lengths-right, cell-unseen}
 use Rattle.method.specs.Answers.{cell-verdict}
 use Rattle.method.proofs.FirstRefusal.{ask-accepted, stopped, went-on}
 use Rattle.method.proofs.QuestionFacts.{YearsInRange, UnseenCell, unseen-cell}
@@ -17,7 +18,7 @@ use Rattle.triangle.specs.Reading.{ReadingOf}
 use Rattle.calls.proofs.OfTriangle.{question-9-is}
 use Rattle.calls.proofs.ReadTriangles.{observed, was-read, can-be-projected, with-question-9, question-1-passed}
 use Rattle.single_cell.specs.Cells.{CellAccepted}
-use Rattle.single_cell.proofs.WholeCells.{cell-accepted, movement-in-triangle, refused-whole, accepted-whole}
+use Rattle.single_cell.proofs.WholeCells.{cell-accepted, movement-in-triangle, refused-whole, accepted-whole, with-demands}
 use Rattle.single_cell.proofs.single_cell.Statement.{statement}
 use Rattle.single_cell.proofs.single_cell.Tie as tie
 
@@ -105,7 +106,7 @@ returns c =
     let r = c .before .before .before in
     let s = r .before in
     let d = ap verdict-of (c .before .enum-told2 .given .1) in
-    c .refused .ensures ∙ refused-whole (triangle s) (s .args .accident-year) (s .args .development-year) (stopped _ (stopped _ (reading r .verdict-is) d) d) d
+    with-demands (triangle s) _ _ (c .refused .ensures ∙ refused-whole (triangle s) (s .args .accident-year) (s .args .development-year) (stopped _ (stopped _ (reading r .verdict-is) d) d) d)
 
 cast-n : tie.Need-cast-n
 cast-n c =
@@ -133,7 +134,7 @@ returns-2 c =
     let q = c .before .before .before in
     let s = q .before .before .before .before .before in
     let d = ap verdict-of (c .before .enum-told4 .given .1) in
-    c .refused2 .ensures ∙ refused-whole (triangle s) (s .args .accident-year) (s .args .development-year) (stopped _ (nine q) d) d
+    with-demands (triangle s) _ _ (c .refused2 .ensures ∙ refused-whole (triangle s) (s .args .accident-year) (s .args .development-year) (stopped _ (nine q) d) d)
 
 cell-unseen-requires : tie.Need-cell-unseen-requires
 cell-unseen-requires c κs =
@@ -157,7 +158,8 @@ returns-3 : tie.Need-returns-3
 returns-3 c =
     let a = c .before .before .before in
     let s = began a in
-    c .refused3 .ensures ∙ refused-whole (triangle s) (s .args .accident-year) (s .args .development-year) (ten a) (ap verdict-of (c .before .enum-told6 .given .1))
+    with-demands (triangle s) _ _
+    (c .refused3 .ensures ∙ refused-whole (triangle s) (s .args .accident-year) (s .args .development-year) (ten a) (ap verdict-of (c .before .enum-told6 .given .1)))
 
 cast-cell-of : tie.Need-cast-cell-of
 cast-cell-of c =
@@ -182,9 +184,10 @@ returns-4 c =
     let a = told .before .before in
     let s = began a in
     let r = read-of a in
-    (simp (toZ-ofZ (s .fits .years), toZ-ofZ (s .fits .accident-year), toZ-ofZ (s .fits .development-year)) at (c .cell-of .ensures))
+    with-demands (triangle s) _ _
+    ((simp (toZ-ofZ (s .fits .years), toZ-ofZ (s .fits .accident-year), toZ-ofZ (s .fits .development-year)) at (c .cell-of .ensures))
     ∙ accepted-whole (triangle s) (s .args .accident-year) (s .args .development-year) (ten a) (ap verdict-of (told .enum-told5 .given .1))
-    (movement-in-triangle (was-read (reading r) (readable-of a)) _ _ (cell-right told))
+    (movement-in-triangle (was-read (reading r) (readable-of a)) _ _ (cell-right told)))
 
 pub single-cell-spec : {M : Type 1} → statement M
 single-cell-spec =

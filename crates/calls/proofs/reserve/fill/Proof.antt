@@ -4,7 +4,7 @@ use mathlib.Core.Path.{_≡_, ap}
 use lib.ListN.{length}
 use mir.Facts.{toZ-ofZ}
 use Rattle.method.specs.Triangle.{Triangle}
-use Rattle.method.specs.Questions.{accepted}
+use Rattle.method.specs.Verdicts.{accepted}
 use Rattle.verdicts.specs.Verdicts.{verdict-of}
 use Rattle.verdicts.proofs.Counts.{count-fits}
 use Rattle.questions.specs.declared.inputs.AnswerLists.the-variants.{OfLengths}

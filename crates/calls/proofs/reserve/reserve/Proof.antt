@@ -4,12 +4,11 @@ use mathlib.Core.Path.{ap, _∙_}
 use Prim.Native.Nat.{ℕ}
 use lib.IntN.{pos}
 use lib.ListN.{replicate}
-use Rattle.method.proofs.FirstRefusal.{not-both}
 use mir.Facts.{toZ-ofZ}
 use Rattle.verdicts.specs.Verdicts.{verdict-of}
 use Rattle.questions.specs.Lent.{lent}
 use Rattle.calls.specs.Answers.{Filled}
-use Rattle.calls.proofs.BothLists.{refused-whole, accepted-whole, demand-1-holds, demand-3-holds}
+use Rattle.calls.proofs.BothLists.{refused-whole, accepted-whole, with-demands}
 use Rattle.calls.proofs.reserve.reserve.Statement.{statement}
 use Rattle.calls.proofs.reserve.reserve.Tie as tie
 
@@ -46,14 +45,12 @@ returns : tie.Need-returns
 returns c =
     let cleared = c .before .before .before .before in
     let f = filled (cleared .before .before .before .before .before .before) in
-    let d = ap verdict-of (cleared .before .before .enum-told2 .given .1) in (
-      rw (
-        cleared .clear .ensures ∙ ap (λ (x : ℕ). replicate x (pos 0)) (f .future-length),
-        c .before .clear2 .ensures ∙ ap (λ (x : ℕ). replicate x (pos 0)) (f .reserves-length),
-      )
-          (refused-whole f d),
-      (λ a. absurd (not-both a d), demand-1-holds f),
+    let d = ap verdict-of (cleared .before .before .enum-told2 .given .1) in
+    rw (
+      cleared .clear .ensures ∙ ap (λ (x : ℕ). replicate x (pos 0)) (f .future-length),
+      c .before .clear2 .ensures ∙ ap (λ (x : ℕ). replicate x (pos 0)) (f .reserves-length),
     )
+    (with-demands _ _ _ (refused-whole f d))
 
 same-length-3 : tie.Need-same-length-3
 same-length-3 c = search needs
@@ -65,7 +62,7 @@ returns-2 : tie.Need-returns-2
 returns-2 c =
     let f = filled (c .before .before .before .before) in
     let yes = ap verdict-of (c .enum-told .given .1) in
-    (accepted-whole f yes, (demand-3-holds f, demand-1-holds f))
+    with-demands _ _ _ (accepted-whole f yes)
 
 pub reserve-spec : {M : Type 1} → statement M
 reserve-spec =

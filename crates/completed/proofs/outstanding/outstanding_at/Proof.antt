@@ -3,6 +3,7 @@ use borrow.Author.Needs.{needs}
 use mathlib.Core.Path.{_≡_, _∙_, subst}
 use Prim.Native.Nat.{ℕ, _+_, _-_, _≤_}
 use native.Mathlib.Omega.{arith}
+use lib.IntN.{pos}
 use mir.Syntax.{w64}
 use mir.Val.{toZ, ofZ}
 use Rattle.integers.proofs.MachineArithmetic.{held}
@@ -48,7 +49,7 @@ movement : (c : tie.After-moved Inv-loop μ-loop) →
     let a = c .before .before .before .before .before .before .args in
     let l = c .before .before .before .before .loop in
     MovedTo (toZ w64 (l .outstanding))
-    (cell (a .n) (a .payments .now) (a .i) (l .j + 1)) (cell (a .n) (a .adjustments .now) (a .i) (l .j + 1)) (toZ w64 (ofZ w64 (c .moved .result)))
+    (cell (pos 0) (a .n) (a .payments .now) (a .i) (l .j + 1)) (cell (pos 0) (a .n) (a .adjustments .now) (a .i) (l .j + 1)) (toZ w64 (ofZ w64 (c .moved .result)))
 movement c =
     let payment = c .before .before .cell-at in
     let adjustment = c .before .cell-at2 in

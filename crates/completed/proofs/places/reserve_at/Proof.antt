@@ -3,7 +3,7 @@ use borrow.Author.Needs.{needs}
 use mathlib.Core.Path.{_∙_}
 use native.Mathlib.Omega.{arith}
 use Rattle.integers.proofs.MachineArithmetic.{held}
-use Rattle.method.specs.Claim.{year-figure}
+use Rattle.method.specs.AnswerPlaces.{year-figure}
 use Rattle.completed.proofs.PlacesInLists.{first-figures-at-year-0}
 use Rattle.completed.proofs.places.reserve_at.Statement.{statement}
 use Rattle.completed.proofs.places.reserve_at.Tie as tie

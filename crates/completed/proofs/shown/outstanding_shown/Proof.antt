@@ -7,7 +7,7 @@ use mir.Syntax.{w64}
 use mir.Val.{toZ, ofZ}
 use Rattle.integers.proofs.MachineArithmetic.{held}
 use Rattle.method.specs.Outstandings.{R}
-use Rattle.method.specs.Claim.{cell-figure}
+use Rattle.method.specs.AnswerPlaces.{cell-figure}
 use Rattle.completed.specs.Completed.{of-lists, RowWithin}
 use Rattle.completed.proofs.ShownCells.{unseen-is-projected, before-first-is-missing, from-first-is-observed}
 use Rattle.completed.proofs.shown.outstanding_shown.Statement.{statement}

@@ -15,17 +15,17 @@ abbrev began : tie.After-rounded-share → tie.Start
 began c = c .before .before .before
 
 paid : (c : tie.After-rounded-share) → let a = began c .args in
-    c .rounded-share .result ≡ shares.answered (share (a .outstanding .0) (a .sums .payments) (a .sums .exposure))
+    c .rounded-share .result ≡ shares.share-or-too-large (share (a .outstanding .0) (a .sums .payments) (a .sums .exposure))
 paid c =
     let a = began c .args in
     let y = began c .pre in
-    simp (toZ-ofZ (part-fits (a .sums .payments) (y .sums-right .payments-size)), toZ-ofZ (exposure-fits y)) at (c .rounded-share .ensures)
+    simp (toZ-ofZ (part-fits (a .sums .payments) (y .sums-in-range .P-size)), toZ-ofZ (exposure-fits y)) at (c .rounded-share .ensures)
 
 rounded-share-requires : tie.Need-rounded-share-requires
 rounded-share-requires c κs =
     let a = c .before .before .args in
     let y = c .before .before .pre in
-    simp (toZ-ofZ (part-fits (a .sums .payments) (y .sums-right .payments-size)), toZ-ofZ (exposure-fits y)) (share-input y _ (y .sums-right .payments-size))
+    simp (toZ-ofZ (part-fits (a .sums .payments) (y .sums-in-range .P-size)), toZ-ofZ (exposure-fits y)) (share-input y _ (y .sums-in-range .P-size))
 
 enum-known-paid : tie.Need-enum-known-paid
 enum-known-paid c = search needs
@@ -39,7 +39,7 @@ returns c = payment-too-large (began (c .before .before) .pre) (sym (c .enum-tol
 -- ---- The adjustment
 
 payment-rounded : (c : tie.After-paid) → let a = began (c .before .before) .args in
-    Rounded (c .paid .given .0 .0) ≡ shares.answered (share (a .outstanding .0) (a .sums .payments) (a .sums .exposure))
+    Rounded (c .paid .given .0 .0) ≡ shares.share-or-too-large (share (a .outstanding .0) (a .sums .payments) (a .sums .exposure))
 payment-rounded c = sym (c .paid .given .1) ∙ paid (c .before .before)
 
 -- where the payment is rounded, seen from the second share
@@ -47,17 +47,17 @@ abbrev with-payment : tie.After-rounded-share2 → tie.After-paid
 with-payment c = c .before .before .before
 
 adjusted : (c : tie.After-rounded-share2) → let a = began (with-payment c .before .before) .args in
-    c .rounded-share2 .result ≡ shares.answered (share (a .outstanding .0) (a .sums .adjustments) (a .sums .exposure))
+    c .rounded-share2 .result ≡ shares.share-or-too-large (share (a .outstanding .0) (a .sums .adjustments) (a .sums .exposure))
 adjusted c =
     let a = began (with-payment c .before .before) .args in
     let y = began (with-payment c .before .before) .pre in
-    simp (toZ-ofZ (part-fits (a .sums .adjustments) (y .sums-right .adjustments-size)), toZ-ofZ (exposure-fits y)) at (c .rounded-share2 .ensures)
+    simp (toZ-ofZ (part-fits (a .sums .adjustments) (y .sums-in-range .Q-size)), toZ-ofZ (exposure-fits y)) at (c .rounded-share2 .ensures)
 
 rounded-share-requires-2 : tie.Need-rounded-share-requires-2
 rounded-share-requires-2 c κs =
     let a = began (c .before .before .before .before) .args in
     let y = began (c .before .before .before .before) .pre in
-    simp (toZ-ofZ (part-fits (a .sums .adjustments) (y .sums-right .adjustments-size)), toZ-ofZ (exposure-fits y)) (share-input y _ (y .sums-right .adjustments-size))
+    simp (toZ-ofZ (part-fits (a .sums .adjustments) (y .sums-in-range .Q-size)), toZ-ofZ (exposure-fits y)) (share-input y _ (y .sums-in-range .Q-size))
 
 enum-known-adjusted : tie.Need-enum-known-adjusted
 enum-known-adjusted c = search needs
@@ -73,7 +73,7 @@ returns-2 c =
 -- ---- The outstanding
 
 adjustment-rounded : (c : tie.After-adjusted) → let a = began (with-payment (c .before .before) .before .before) .args in
-    Rounded (c .adjusted .given .0 .0) ≡ shares.answered (share (a .outstanding .0) (a .sums .adjustments) (a .sums .exposure))
+    Rounded (c .adjusted .given .0 .0) ≡ shares.share-or-too-large (share (a .outstanding .0) (a .sums .adjustments) (a .sums .exposure))
 adjustment-rounded c = sym (c .adjusted .given .1) ∙ adjusted (c .before .before)
 
 abbrev start : tie.After-adjusted → tie.Start

@@ -6,7 +6,8 @@ use native.Mathlib.Omega.{arith}
 use lib.IntN.{natAbs}
 use mir.Facts.{toZ-ofZ}
 use Rattle.method.specs.Triangle.{Triangle}
-use Rattle.method.specs.Questions.{accepted, nowhere, ask, question-1, question-2, question-3, list-questions, input-questions}
+use Rattle.method.specs.Verdicts.{accepted, nowhere, ask}
+use Rattle.method.specs.Questions.{question-1, question-2, question-3, list-questions, input-questions}
 use Rattle.method.proofs.FirstRefusal.{ask-accepted, stopped, went-on}
 use Rattle.method.proofs.QuestionFacts.{YearsInRange, CutInRange, years-accepted, cut-accepted}
 use Rattle.verdicts.specs.Verdicts.{verdict-of}

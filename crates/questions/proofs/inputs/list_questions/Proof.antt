@@ -3,7 +3,8 @@ use borrow.Author.Needs.{needs}
 use mathlib.Core.Path.{_≡_, sym, ap, _∙_}
 use native.Mathlib.Omega.{arith}
 use Rattle.method.specs.Triangle.{Triangle}
-use Rattle.method.specs.Questions.{accepted, question-4, question-5, question-6, list-questions}
+use Rattle.method.specs.Verdicts.{accepted}
+use Rattle.method.specs.Questions.{question-4, question-5, question-6, list-questions}
 use Rattle.method.proofs.FirstRefusal.{stopped, went-on, then-accepted}
 use Rattle.method.proofs.Positions.{weights-length-is}
 use Rattle.verdicts.specs.Verdicts.{verdict-of}

@@ -9,7 +9,9 @@ use mir.Facts.{toZ-ofZ}
 use Rattle.integers.proofs.RingSolver.{con, _:-_}
 use Rattle.integers.proofs.LinearFacts.{fits-by}
 use Rattle.integers.proofs.Order.{natAbs-parts}
-use Rattle.method.specs.Questions.{nowhere, ask, cut-in-range, question-2}
+use Rattle.method.specs.Verdicts.{nowhere, ask}
+use Rattle.method.specs.Tests.{cut-in-range}
+use Rattle.method.specs.Questions.{question-2}
 use Rattle.method.proofs.QuestionFacts.{years-accepted}
 use Rattle.questions.proofs.inputs.question_2.Statement.{statement}
 use Rattle.questions.proofs.inputs.question_2.Tie as tie

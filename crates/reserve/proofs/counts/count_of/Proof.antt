@@ -4,7 +4,7 @@ use mathlib.Core.Path.{_≡_, sym, _∙_}
 use mathlib.Core.Bool.{true}
 use lib.IntN.{pos}
 use mir.Facts.{toZ-ofZ}
-use Rattle.method.specs.Questions.{from-to}
+use Rattle.method.specs.Tests.{from-to}
 use Rattle.reserve.proofs.Ranges.{few-years}
 use Rattle.reserve.proofs.counts.count_of.Statement.{statement}
 use Rattle.reserve.proofs.counts.count_of.Tie as tie

@@ -5,7 +5,7 @@ use mathlib.Core.Bool.{true}
 use lib.IntN.{negℤ}
 use mir.Facts.{toZ-ofZ}
 use Rattle.method.specs.Limits.{greatest-amount}
-use Rattle.method.specs.Questions.{from-to}
+use Rattle.method.specs.Tests.{from-to}
 use Rattle.reserve.proofs.Ranges.{has-millionths}
 use Rattle.reserve.proofs.counts.in_millionths.Statement.{statement}
 use Rattle.reserve.proofs.counts.in_millionths.Tie as tie

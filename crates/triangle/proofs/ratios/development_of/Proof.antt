@@ -24,7 +24,7 @@ triangle s cut = counted (s .args .n) cut (s .args .payments .now) (s .args .adj
 
 -- what questions 1 to 7 leave of it, with the cut that they were asked with
 observed : (s : tie.Start Inv-loop μ-loop) → Observed (triangle s (s .pre .cut))
-observed s = observed-triangle (triangle s (s .pre .cut)) true (λ _. says-input-lengths (triangle s (s .pre .cut)) .sound (s .pre .lists-right)) (s .pre .passed)
+observed s = observed-triangle (triangle s (s .pre .cut)) true (λ _. says-input-lengths (triangle s (s .pre .cut)) .sound (s .pre .inputs-right)) (s .pre .passed)
 
 first-outstandings-requires : tie.Need-first-outstandings-requires Inv-loop μ-loop
 first-outstandings-requires c κs = first-year _ (observed c)

@@ -3,7 +3,8 @@ use borrow.Author.Needs.{needs}
 use mathlib.Core.Path.{_≡_, sym, ap, _∙_}
 use mir.Facts.{toZ-ofZ}
 use Rattle.method.specs.Triangle.{Triangle}
-use Rattle.method.specs.Questions.{accepted, input-questions, question-8, observed-questions}
+use Rattle.method.specs.Verdicts.{accepted}
+use Rattle.method.specs.Questions.{input-questions, question-8, observed-questions}
 use Rattle.method.proofs.FirstRefusal.{stopped, went-on}
 use Rattle.method.proofs.QuestionFacts.{Observed}
 use Rattle.verdicts.specs.Verdicts.{verdict-of}

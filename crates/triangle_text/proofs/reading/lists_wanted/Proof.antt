@@ -10,7 +10,8 @@ use mir.Facts.{toZ-ofZ}
 use Rattle.integers.proofs.RingSolver.{con, _:-_}
 use Rattle.integers.proofs.LinearFacts.{integers, fits-by}
 use Rattle.method.specs.Limits.{fewest-years, most-years}
-use Rattle.method.specs.Questions.{from-to, years-in-range, cut-in-range}
+use Rattle.method.specs.Tests.{from-to}
+use Rattle.method.specs.Tests.{years-in-range, cut-in-range}
 use Rattle.method.proofs.Tests.{from-to-true}
 use Rattle.triangle_text.specs.Reading.{lists-wanted}
 use Rattle.triangle_text.proofs.reading.lists_wanted.Statement.{statement}

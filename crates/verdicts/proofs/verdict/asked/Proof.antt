@@ -1,6 +1,6 @@
 -- By the answer to the question.
 use mathlib.Core.Path.{sym, _∙_}
-use Rattle.method.specs.Questions.{nowhere}
+use Rattle.method.specs.Verdicts.{nowhere}
 use Rattle.method.proofs.FirstRefusal.{ask-yes, ask-no}
 use borrow.Author.Needs.{needs}
 use Rattle.verdicts.proofs.verdict.asked.Statement.{statement}

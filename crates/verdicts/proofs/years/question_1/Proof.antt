@@ -2,7 +2,9 @@
 use borrow.Author.Needs.{needs}
 use mathlib.Core.Path.{ap, _∙_}
 use mir.Facts.{toZ-ofZ}
-use Rattle.method.specs.Questions.{nowhere, ask, years-in-range, question-1}
+use Rattle.method.specs.Verdicts.{nowhere, ask}
+use Rattle.method.specs.Tests.{years-in-range}
+use Rattle.method.specs.Questions.{question-1}
 use Rattle.verdicts.proofs.years.question_1.Statement.{statement}
 use Rattle.verdicts.proofs.years.question_1.Tie as tie
 

@@ -1,8 +1,8 @@
 -- A sum within 64 bits.
 use mir.Facts.{toZ-ofZ}
 use Rattle.calls.proofs.RowLoop.{sum-fits, figure-fits, total-fits}
-use Rattle.calls.proofs.rows.plus.Statement.{statement}
-use Rattle.calls.proofs.rows.plus.Tie as tie
+use Rattle.calls.proofs.projected_rows.plus.Statement.{statement}
+use Rattle.calls.proofs.projected_rows.plus.Tie as tie
 
 add-t3 : tie.Need-add-t3
 add-t3 c =

@@ -1,12 +1,12 @@
 // The accident years of a triangle, projected one after another.
 ghost use mathlib.Core.Path.{_≡_};
 ghost use Prim.Native.Nat.{_+_, _*_, _-_, _≤_};
-ghost use lib.IntN.{_+ℤ_, _*ℤ_};
+ghost use lib.IntN.{pos, _+ℤ_, _*ℤ_};
 ghost use lib.ListN.{length};
 ghost use Rattle.method.specs.Limits.{one-unit};
 ghost use Rattle.method.specs.Triangle.{future-length, reserves-length};
 ghost use Rattle.verdicts.specs.Verdicts.{verdict-of};
-ghost use Rattle.calls.specs.Rows.{RowInput, RowProjected, Addable, Projectable, RowsProjected};
+ghost use Rattle.calls.specs.ProjectedRows.{RowInput, RowProjected, FigureAddable, Projectable, RowsProjected};
 use projection::lists::write_three;
 use projection::year::ProjectedYear;
 use projection::year::next_year;
@@ -56,7 +56,7 @@ pub struct ProjectedRow {
 }
 
 // Projects accident year i from its last observed outstanding, in whole units, and writes its figures from a place of the future list on.
-// Stops at the first refusal of question 9, and leaves what it has written.
+// Stops at the first refusal of question 9: the years before it stay written, and no other place of the list is touched.
 pub fn project_row(
     n: usize,
     i: usize,
@@ -99,7 +99,7 @@ pub fn project_row(
 }
 
 fn refused_row(verdict: Verdict) -> ProjectedRow
-    ensures { λ r. ⌜ r .verdict ≡ verdict ⌝ }
+    ensures { λ r. ⌜ r ≡ record { verdict = verdict; paid = record { 0 = pos 0 }; incurred = record { 0 = pos 0 }; closing = record { 0 = pos 0 } } ⌝ }
 {
     ProjectedRow {
         verdict: verdict,
@@ -110,7 +110,7 @@ fn refused_row(verdict: Verdict) -> ProjectedRow
 }
 
 fn plus(sum: Millionths, figure: Millionths) -> Millionths
-    requires { ⌜ Addable (sum .0) (figure .0) ⌝ }
+    requires { ⌜ FigureAddable (sum .0) (figure .0) ⌝ }
     ensures { λ r. ⌜ r .0 ≡ sum .0 +ℤ figure .0 ⌝ }
 {
     Millionths(sum.0 + figure.0)

@@ -4,20 +4,22 @@ use mathlib.Core.Path.{_≡_}
 use mathlib.Core.List.{List, [], _∷_, _++_}
 use Prim.Native.Nat.{ℕ, zero, suc, _+_, _*_, _-_, _≤_, _<_}
 use lib.IntN.{ℤ, pos, _+ℤ_, _*ℤ_, natAbs}
-use lib.ListN.{length, getD, take}
+use lib.ListN.{getD}
+use lib.Seq.{sets}
 use lib.Signed.{_≤ℤ_}
 use Rattle.method.specs.Limits.{one-unit, greatest-outstanding, most-accident-years}
 use Rattle.method.specs.Counting.{sum-to, list-to}
 use Rattle.method.specs.Triangle.{entry}
 use Rattle.method.specs.Outstandings as meaning
 use Rattle.method.specs.ProjectedYear.{Movement, figures, next-year}
-use Rattle.method.specs.Questions.{Verdict, accepted, at, ask, first-to, figures-in-range}
+use Rattle.method.specs.Verdicts.{Verdict, accepted, refused, at, ask, first-to}
+use Rattle.method.specs.Questions.{figures-in-range}
 use Rattle.share.specs.Share.{greatest-size}
 use Rattle.verdicts.specs.Verdicts.{verdict-of}
 use Rattle.triangle.specs.declared.ratios.Sums.{Sums}
 use Rattle.triangle.specs.Ratios.{sums-of, no-sums}
-use Rattle.projection.specs.Year.{SumsRight}
-use Rattle.calls.specs.declared.rows.ProjectedRow.{ProjectedRow}
+use Rattle.method.specs.SumLimits.{SumsInRange}
+use Rattle.calls.specs.declared.projected_rows.ProjectedRow.{ProjectedRow}
 
 -- the sums at a place of the ratios; those of development year k stand at k − 1
 abbrev pub sums-at : List Sums → ℕ → meaning.Sums
@@ -40,8 +42,8 @@ module _ (n : ℕ) (ratios : List Sums) (i : ℕ) (observed : ℤ) where
   unfoldable pub row-question : ℕ → Verdict
   row-question j = ask (figures-in-range (projected-year ratios (n - i) observed j)) 9 (at i (suc (n - i + j)))
 
-  unfoldable pub row-verdict : Verdict
-  row-verdict = first-to (i - 1) row-question
+  unfoldable pub figures-verdict : Verdict
+  figures-verdict = first-to (i - 1) row-question
 
   -- of the first m projected years
   unfoldable pub row-figures : ℕ → List ℤ
@@ -53,10 +55,20 @@ module _ (n : ℕ) (ratios : List Sums) (i : ℕ) (observed : ℤ) where
   unfoldable pub row-adjustments : ℕ → ℤ
   row-adjustments m = sum-to m (λ j. projected-year ratios (n - i) observed j .adjustment)
 
+  -- how many of the first m projected years come before the first one that question 9 refuses
+  unfoldable pub years-passed : ℕ → ℕ
+  years-passed zero = 0
+  years-passed (suc m) = elim (first-to (suc m) row-question) [ accepted ↦ suc m | refused question p ↦ years-passed m ]
+
   -- the paid reserve, the incurred reserve and the closing outstanding
   unfoldable pub row-reserves : List ℤ
   row-reserves =
       row-payments (i - 1) ∷ (observed +ℤ row-adjustments (i - 1)) ∷ outstanding-after ratios (n - i) observed (i - 1) ∷ []
+
+  -- what a row answers of them: zeros where it is refused
+  unfoldable pub reserves-answered : Verdict → List ℤ
+  reserves-answered accepted = row-reserves
+  reserves-answered (refused question p) = pos 0 ∷ pos 0 ∷ pos 0 ∷ []
 
 -- ---- All rows, from the last observed outstandings, in whole units
 
@@ -65,7 +77,7 @@ module _ (n : ℕ) (ratios : List Sums) (outstandings : List ℤ) where
   observed-of i = entry outstandings i *ℤ one-unit
 
   unfoldable pub verdict-of-row : ℕ → Verdict
-  verdict-of-row i = row-verdict n ratios i (observed-of i)
+  verdict-of-row i = figures-verdict n ratios i (observed-of i)
 
   unfoldable pub figures-of-row : ℕ → List ℤ
   figures-of-row i = row-figures n ratios i (observed-of i) (i - 1)
@@ -76,26 +88,26 @@ module _ (n : ℕ) (ratios : List Sums) (outstandings : List ℤ) where
 -- ---- What the code is asked
 
 -- an accident year, and ratios as questions 1 to 8 leave them
-pub record RowRight (n : ℕ) (ratios : List Sums) (i : ℕ) : Type 0 where
+pub record RowWithRatios (n : ℕ) (ratios : List Sums) (i : ℕ) : Type 0 where
   pub first : 1 ≤ i
   pub last : i ≤ n
   pub most : n ≤ most-accident-years
-  pub year : (j : ℕ) → j + 1 < n → SumsRight (sums-at ratios j)
+  pub year : (j : ℕ) → j + 1 < n → SumsInRange (sums-at ratios j)
 
 -- with the accident year's last observed outstanding, in whole units
 pub record RowInput (n : ℕ) (ratios : List Sums) (i : ℕ) (observed : ℤ) : Type 0 where
-  pub row : RowRight n ratios i
+  pub row : RowWithRatios n ratios i
   pub observed-nonneg : pos 0 ≤ℤ observed
   pub observed-most : observed ≤ℤ greatest-outstanding
 
 -- what questions 1 to 8 leave
 pub record Projectable (n : ℕ) (ratios : List Sums) (outstandings : List ℤ) : Type 0 where
   pub most : n ≤ most-accident-years
-  pub year : (j : ℕ) → j + 1 < n → SumsRight (sums-at ratios j)
+  pub year : (j : ℕ) → j + 1 < n → SumsInRange (sums-at ratios j)
   pub outstanding : (r : ℕ) → r < n → (pos 0 ≤ℤ getD outstandings r (pos 0)) × (getD outstandings r (pos 0) ≤ℤ greatest-outstanding)
 
 -- a sum of some figures within the limit of question 9, and one more of them
-pub record Addable (sum figure : ℤ) : Type 0 where
+pub record FigureAddable (sum figure : ℤ) : Type 0 where
   pub sum-size : natAbs sum ≤ most-accident-years * greatest-size
   pub figure-size : natAbs figure ≤ greatest-size
 
@@ -103,12 +115,10 @@ pub record Addable (sum figure : ℤ) : Type 0 where
 
 -- a row, projected into the future list from the place `start` on
 pub record RowProjected (n : ℕ) (ratios : List Sums) (i : ℕ) (observed : ℤ) (start : ℕ) (before : List ℤ) (r : ProjectedRow) (after : List ℤ) : Type 0 where
-  pub same-length : length after ≡ length before
-  pub verdict-is : verdict-of (r .verdict) ≡ row-verdict n ratios i observed
-  pub reserves-are : row-verdict n ratios i observed ≡ accepted
-      → (r .paid .0 ∷ r .incurred .0 ∷ r .closing .0 ∷ []) ≡ row-reserves n ratios i observed
-  pub figures-are : row-verdict n ratios i observed ≡ accepted
-      → take (start + 3 * (i - 1)) after ≡ take start before ++ row-figures n ratios i observed (i - 1)
+  pub verdict-is : verdict-of (r .verdict) ≡ figures-verdict n ratios i observed
+  pub reserves-are : (r .paid .0 ∷ r .incurred .0 ∷ r .closing .0 ∷ []) ≡ reserves-answered n ratios i observed (figures-verdict n ratios i observed)
+  -- the years before a refusal are written, and nothing else
+  pub list-is : after ≡ sets before start (row-figures n ratios i observed (years-passed n ratios i observed (i - 1)))
 
 -- all rows, projected into both lists
 pub record RowsProjected (n : ℕ) (ratios : List Sums) (outstandings : List ℤ) (v : Verdict) (future reserves : List ℤ) : Type 0 where

@@ -8,10 +8,11 @@ use lib.ListN.{getD}
 use Rattle.integers.proofs.MachineArithmetic.{Held, held}
 use Rattle.method.specs.Limits.{one-unit}
 use Rattle.verdicts.specs.Verdicts.{verdict-of}
-use Rattle.calls.specs.Rows.{RowProjected}
+use Rattle.calls.specs.ProjectedRows.{RowProjected}
+use Rattle.calls.proofs.RowLoop.{row-list-length}
 use Rattle.calls.proofs.RowsLoop.{RowsSoFar, no-row-projected, row-input, future-room, reserves-room, row-refused, next-row, all-rows}
-use Rattle.calls.proofs.rows.project.Statement.{statement}
-use Rattle.calls.proofs.rows.project.Tie as tie
+use Rattle.calls.proofs.projected_rows.project.Statement.{statement}
+use Rattle.calls.proofs.projected_rows.project.Tie as tie
 
 abbrev Inv-loop : tie.InvT-loop
 Inv-loop n future₀ reserves₀ ratios outstandings future-at₀ r₀ future reserves future-at r = RowsSoFar n ratios outstandings future reserves future-at r
@@ -67,7 +68,7 @@ same-length : tie.Need-same-length Inv-loop μ-loop
 same-length c =
     let p = c .before .before .before in
     let t = p .before .before .before in
-    p .project-row .ensures .same-length ∙ t .before .loop .inv .future-whole ∙ sym (start t .pre .1 .0)
+    row-list-length (projected p) ∙ t .before .loop .inv .future-whole ∙ sym (start t .pre .1 .0)
 
 same-length-2 : tie.Need-same-length-2 Inv-loop μ-loop
 same-length-2 c =

@@ -7,14 +7,13 @@ use lib.IntN.{_*ℤ_}
 use mir.Facts.{toZ-ofZ}
 use Rattle.method.specs.Limits.{one-unit}
 use Rattle.method.specs.ProjectedYear.{next-year}
-use Rattle.method.proofs.FirstRefusal.{not-both}
 use Rattle.verdicts.specs.Verdicts.{verdict-of}
 use Rattle.projection.specs.declared.year.ProjectedYear.the-variants.{Within}
-use Rattle.projection.specs.Year.{answered}
-use Rattle.calls.specs.Rows.{sums-at}
-use Rattle.calls.proofs.RowLoop.{RowInMillionths, in-millionths, units-small, RowSoFar, no-year-projected, year-input, year-refused, paid-addable, incurred-addable, three-fit, one-more-year, room, row-accepted, row-written, row-summed}
-use Rattle.calls.proofs.rows.project_row.Statement.{statement}
-use Rattle.calls.proofs.rows.project_row.Tie as tie
+use Rattle.projection.specs.Year.{year-or-too-large}
+use Rattle.calls.specs.ProjectedRows.{sums-at}
+use Rattle.calls.proofs.RowLoop.{RowInMillionths, in-millionths, units-small, RowSoFar, no-year-projected, year-input, year-refused, zeros-answered, written-before-refusal, paid-addable, incurred-addable, three-fit, one-more-year, same-length as row-length, room, row-accepted, row-written, row-summed}
+use Rattle.calls.proofs.projected_rows.project_row.Statement.{statement}
+use Rattle.calls.proofs.projected_rows.project_row.Tie as tie
 
 abbrev Inv-loop : tie.InvT-loop
 Inv-loop n i observed future₀ start ratios outstanding₀ paid₀ incurred₀ at₀ j₀ future outstanding paid incurred at j =
@@ -46,7 +45,7 @@ few c = omega (arith, start c .pre .0 .row .last, start c .pre .0 .row .most)
 -- a year within the limit
 within : (c : tie.After-year Inv-loop μ-loop) → let y = c .before .before in
     Within (c .year .given .0 .0)
-    ≡ answered (next-year (turn y .before .loop .outstanding .0) (sums-at (start y .args .t3) (start y .args .n - start y .args .i + turn y .before .loop .j)))
+    ≡ year-or-too-large (next-year (turn y .before .loop .outstanding .0) (sums-at (start y .args .t3) (start y .args .n - start y .args .i + turn y .before .loop .j)))
 within c = sym (c .year .given .1) ∙ c .before .before .next-year .ensures
 
 from-units-requires : tie.Need-from-units-requires Inv-loop μ-loop
@@ -89,18 +88,18 @@ refused-row-requires : tie.Need-refused-row-requires Inv-loop μ-loop
 refused-row-requires c κs = search needs
 
 same-length : tie.Need-same-length Inv-loop μ-loop
-same-length c = turn (c .before .before .before .before) .before .loop .inv .same-length
+same-length c = let y = c .before .before .before .before in row-length (input (begun y)) (turn y .before .loop .inv)
 
 returns : tie.Need-returns Inv-loop μ-loop
 returns c =
     let y = c .before .before .before .before in
     let l = turn y .before .loop in
-    let no = year-refused (input (begun y)) (l .inv) (omega arith) (sym (c .before .before .enum-told .given .1) ∙ y .next-year .ensures) in
-    rw (sym (units-are (begun y))) (record {
-      same-length = l .inv .same-length;
-      verdict-is = ap verdict-of (c .refused-row .ensures) ∙ c .before .refusal-at .ensures ∙ sym no;
-      reserves-are = λ a. absurd (not-both a no);
-      figures-are = λ a. absurd (not-both a no);
+    let no = sym (c .before .before .enum-told .given .1) ∙ y .next-year .ensures in
+    let ok = input (begun y) in
+    rw (sym (units-are (begun y)), c .refused-row .ensures) (record {
+      verdict-is = c .before .refusal-at .ensures ∙ sym (year-refused ok (l .inv) (omega arith) no);
+      reserves-are = zeros-answered ok (l .inv) (omega arith) no;
+      list-is = written-before-refusal ok (l .inv) (omega arith) no;
     })
 
 write-three-requires : tie.Need-write-three-requires Inv-loop μ-loop
@@ -143,21 +142,19 @@ loop-again c =
       c .before .plus .ensures,
       c .plus2 .ensures,
     )
-    (one-more-year ok (t .before .loop .inv) (omega arith) (within y)
-    (room ok (t .before .loop .inv) (start (y .before .before) .pre .1) (omega arith)))
+    (one-more-year ok (t .before .loop .inv) (omega arith) (within y))
 
 same-length-2 : tie.Need-same-length-2 Inv-loop μ-loop
-same-length-2 c = c .before .loop .inv .same-length
+same-length-2 c = row-length (input (c .before .before)) (c .before .loop .inv)
 
 returns-2 : tie.Need-returns-2 Inv-loop μ-loop
 returns-2 c =
     let l = c .before .loop in
     let ok = input (c .before .before) in
     rw (sym (units-are (c .before .before))) (record {
-      same-length = l .inv .same-length;
       verdict-is = sym (row-accepted ok (l .inv) (omega arith));
-      reserves-are = λ _. row-summed ok (l .inv) (omega arith);
-      figures-are = λ _. row-written ok (l .inv) (omega arith);
+      reserves-are = row-summed ok (l .inv) (omega arith);
+      list-is = row-written ok (l .inv) (omega arith);
     })
 
 pub project-row-spec : {M : Type 1} → statement M

@@ -1,0 +1,31 @@
+-- Demand 2: the figures of both answer lists are the method's, place by place.
+-- That each share in them is rounded half up is `share` in ProjectedYear; the ratios are the sums of `sums` in Outstandings.
+use mathlib.Core.Path.{_≡_}
+use mathlib.Core.List.{List}
+use Prim.Native.Nat.{ℕ}
+use lib.IntN.{ℤ}
+use lib.ListN.{length}
+use Rattle.method.specs.Verdicts.{accepted}
+use Rattle.method.specs.Triangle.{Triangle, future-length, reserves-length}
+use Rattle.method.specs.RunOff.{Method, movement, paid-reserve, incurred-reserve, closing, method}
+use Rattle.method.specs.Answers.{answer}
+use Rattle.method.specs.AnswerPlaces.{Projected, AccidentYear, cell-figure, year-figure}
+
+pub record Demand-2 (m : Method) (future reserves : List ℤ) : Type 0 where
+  -- the lists are whole
+  pub future-whole : length future ≡ future-length (m .years)
+  pub reserves-whole : length reserves ≡ reserves-length (m .years)
+  -- the figures of every unseen cell (i, k + 1)
+  pub payment : (i k : ℕ) → Projected (m .years) i k → cell-figure (m .years) future 0 i k ≡ movement m i k .payment
+  pub adjustment : (i k : ℕ) → Projected (m .years) i k → cell-figure (m .years) future 1 i k ≡ movement m i k .adjustment
+  pub outstanding : (i k : ℕ) → Projected (m .years) i k → cell-figure (m .years) future 2 i k ≡ movement m i k .outstanding
+  -- those of every accident year
+  pub paid : (i : ℕ) → AccidentYear (m .years) i → year-figure reserves 0 i ≡ paid-reserve m i
+  pub incurred : (i : ℕ) → AccidentYear (m .years) i → year-figure reserves 1 i ≡ incurred-reserve m i
+  pub closing-outstanding : (i : ℕ) → AccidentYear (m .years) i → year-figure reserves 2 i ≡ closing m i
+
+-- Over every accepted triangle. Proved as `demand-2`.
+abbrev pub Demand-2-of-every-accepted-triangle : Type 0
+Demand-2-of-every-accepted-triangle =
+    (t : Triangle) (future-room reserves-room : ℕ) → answer t future-room reserves-room .verdict ≡ accepted
+    → Demand-2 (method t) (answer t future-room reserves-room .future) (answer t future-room reserves-room .reserves)
