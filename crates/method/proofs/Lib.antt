@@ -15,7 +15,7 @@ pub mod KeptAllowances
 pub mod Projection
 pub mod Readings
 pub mod WholeAnswers
-pub mod AskedQuestions
+pub mod QuestionTable
 pub mod ProofOfDemand1
 pub mod ProofOfDemand2
 pub mod ProofOfDemand3

@@ -8,7 +8,8 @@ use lib.IntN.{ℤ}
 use Rattle.method.specs.Verdicts.{Place, Verdict, accepted, refused, number}
 use Rattle.method.specs.Triangle.{Triangle}
 use Rattle.method.specs.Answers.{CellAnswer}
-use Rattle.method.specs.Demand1.{Question, FirstNoOf, DecidedBy, triangle-questions, InputLengthsRight, LengthsRight, Demand-1, unseen-question, cell-questions, Demand-1-of-cell}
+use Rattle.method.specs.QuestionTable.{Question, FirstNoOf, DecidedBy}
+use Rattle.method.specs.Demand1.{triangle-questions, InputLengthsRight, LengthsRight, Demand-1, unseen-question, cell-questions, Demand-1-of-cell}
 
 abbrev AllNumbered : List Question → Type 0
 AllNumbered [] = Unit {0}

@@ -6,21 +6,21 @@ use mathlib.Core.List.{List, _++_}
 use Prim.Native.Nat.{ℕ, suc, _+_, _-_, _≤_, _<_}
 use native.Mathlib.Decide.{decLe}
 use native.Mathlib.Omega.{arith}
-use lib.IntN.{ℤ, pos, _+ℤ_, _-ℤ_}
-use lib.Signed.{_≤ℤ_, _<ℤ_}
+use lib.IntN.{pos, _-ℤ_}
 use Rattle.method.specs.Verdicts.{Verdict, _then_, each-cell}
 use Rattle.method.specs.Triangle.{Triangle, n, Y, S, T, w}
 use Rattle.method.specs.Tests.{years-in-range, cut-in-range, amount-right}
 use Rattle.method.specs.Outstandings.{R, sums}
 use Rattle.method.specs.RunOff.{movement, year-before, method}
-use Rattle.method.specs.Questions.{lengths-right, figures-in-range, question-1, question-2, question-3, question-4, question-5, question-6, question-7, question-8, question-9-of-year, question-9, list-questions, input-questions, observed-questions, questions, cell-unseen, accident-year-in-range, question-10}
+use Rattle.method.specs.Questions.{lengths-right, figures-in-range, question-1, question-2, question-3, question-4, question-5, question-6, question-7, question-8, question-9-of-year, question-9, list-questions, input-questions, observed-questions, questions, accident-year-in-range, question-10}
 use Rattle.method.specs.Answers.{answer, cell-verdict, single-cell, both-lengths-right, row-verdict}
-use Rattle.method.specs.Demand1.{Question, From-to, Figures-right, question, triangle-questions, DecidedBy, Demand-1-of-every-call}
+use Rattle.method.specs.QuestionTable.{Question, question, DecidedBy}
+use Rattle.method.specs.Demand1.{Figures-right, triangle-questions, Demand-1-of-every-call}
 use Rattle.method.proofs.WholeAnswers.{filled-verdict, filled-zeros, cell-figures-verdict, cell-figures-zeros}
 use Rattle.method.proofs.FirstRefusal.{then-assoc, then-none}
-use Rattle.method.proofs.QuestionFacts.{says-input-lengths, says-lengths}
-use Rattle.method.proofs.Tests.{Says, says-≤, says-<, says-eqb, says-and, says-from-to, says-map, says-weight, says-amount, says-outstanding, says-weight-allowed, says-figures}
-use Rattle.method.proofs.AskedQuestions.{told, told-where, Answers, asked-once, OneOf, asked-in-row, in-own-row, asked-row-by-row, asked-cell-by-cell, AnswersAll, none, last-asked, _and-then_, decided}
+use Rattle.method.proofs.QuestionFacts.{says-input-lengths, says-lengths, says-unseen}
+use Rattle.method.proofs.Tests.{Says, says-<, says-eqb, says-and, says-from-to, says-weight, says-amount, says-outstanding, says-weight-allowed, says-figures}
+use Rattle.method.proofs.QuestionTable.{told, told-where, Answers, asked-once, OneOf, asked-in-row, in-own-row, asked-row-by-row, asked-cell-by-cell, AnswersAll, none, last-asked, _and-then_, decided}
 
 -- ---- Questions 1 to 9, and what is asked after them
 
@@ -72,12 +72,6 @@ module _ (t : Triangle) where
       and-then rest)
 
 -- ---- The calls
-
-says-unseen : (years i k : ℤ) → Says (cell-unseen years i k) ((From-to (pos 2) years i) × (k ≤ℤ years) × ((years +ℤ pos 1) <ℤ (i +ℤ k)))
-unfolding cell-unseen
-says-unseen years i k =
-    says-map (λ h. (h .0 .0, h .0 .1, h .1)) (λ h. ((h .0, h .1), h .2))
-    (says-and (says-and (says-from-to (pos 2) years i) (says-≤ k years)) (says-< (years +ℤ pos 1) (i +ℤ k)))
 
 pub demand-1 : Demand-1-of-every-call
 unfolding answer single-cell cell-verdict row-verdict both-lengths-right question-1 years-in-range question-3 question-10 accident-year-in-range

@@ -1,12 +1,12 @@
 -- What each question leaves when it accepts, as facts on the triangle, and all of it for an accepted triangle.
 use mathlib.Core.Path.{_≡_, refl, subst}
-use mathlib.Core.Bool.{Bool, true, _&&_}
+use mathlib.Core.Bool.{Bool, true}
 use Prim.Native.Nat.{ℕ, suc, _+_, _-_, _≤_, _<_}
 use native.Mathlib.Omega.{arith}
 use lib.Dec.{leb→le}
 use lib.IntN.{ℤ, pos, negsuc, _+ℤ_, _-ℤ_, natAbs}
 use lib.ListN.{length}
-use lib.Signed.{leZ, ltZ, _≤ℤ_, _<ℤ_, leZ-yes, ltZ-yes}
+use lib.Signed.{ltZ, _≤ℤ_, _<ℤ_}
 use Rattle.integers.specs.Fraction.{size}
 use Rattle.integers.proofs.RingSolver.{con, _:+_, _:-_}
 use Rattle.integers.proofs.LinearFacts.{integers, parts}
@@ -20,9 +20,10 @@ use Rattle.method.specs.Verdicts.{accepted, at, nowhere, ask, each-cell}
 use Rattle.method.specs.Tests.{from-to, weight-in-range, amount-right, outstanding-in-range, weight-allowed}
 use Rattle.method.specs.Tests.{years-in-range, cut-in-range}
 use Rattle.method.specs.Questions.{input-lengths-right, lengths-right, figures-in-range, question-1, question-2, question-3, question-4, question-5, question-6, question-7, question-8, question-9-of-year, question-9, list-questions, input-questions, observed-questions, questions, cell-unseen}
+use Rattle.method.specs.QuestionTable.{From-to}
 use Rattle.method.specs.Demand1.{InputLengthsRight, LengthsRight}
 use Rattle.method.specs.AnswerPlaces.{Projected}
-use Rattle.method.proofs.Tests.{is-true, and-true, from-to-true, Says, says-<, says-eqb, says-map, says-and, says-weight, says-amount, says-outstanding, says-weight-allowed, says-figures}
+use Rattle.method.proofs.Tests.{from-to-true, Says, says-≤, says-<, says-from-to, says-eqb, says-map, says-and, says-weight, says-amount, says-outstanding, says-weight-allowed, says-figures}
 use Rattle.method.proofs.FirstRefusal.{ask-accepted, then-accepted, first-accepted, each-cell-passed}
 
 -- ---- What questions 1 to 3 leave
@@ -227,13 +228,16 @@ pub record UnseenCell (n : ℕ) (i k : ℤ) : Type 0 where
   pub unseen : n + 1 < natAbs i + natAbs k
   pub last-year : natAbs k ≤ n
 
-pub unseen-cell : (years i k : ℤ) → YearsInRange years → cell-unseen years i k ≡ true → UnseenCell (natAbs years) i k
+pub says-unseen : (years i k : ℤ) → Says (cell-unseen years i k) ((From-to (pos 2) years i) × (k ≤ℤ years) × ((years +ℤ pos 1) <ℤ (i +ℤ k)))
 unfolding cell-unseen
+says-unseen years i k =
+    says-map (λ h. (h .0 .0, h .0 .1, h .1)) (λ h. ((h .0, h .1), h .2))
+    (says-and (says-and (says-from-to (pos 2) years i) (says-≤ k years)) (says-< (years +ℤ pos 1) (i +ℤ k)))
+
+pub unseen-cell : (years i k : ℤ) → YearsInRange years → cell-unseen years i k ≡ true → UnseenCell (natAbs years) i k
 unseen-cell years i k y e =
-    let a = and-true (from-to (pos 2) years i && leZ k years) (ltZ (years +ℤ pos 1) (i +ℤ k)) e in
-    let b = and-true (from-to (pos 2) years i) (leZ k years) (a .0) in
-    let c = from-to-true (pos 2) years i (b .0) in
-    go years i k (y .counted) (c .0) (c .1) (leZ-yes (is-true (b .1))) (ltZ-yes (is-true (a .1)))
+    let (in-range, last, unseen) = says-unseen years i k .sound e in
+    go years i k (y .counted) (in-range .0) (in-range .1) last unseen
   where
     go : (years i k : ℤ) → years ≡ pos (natAbs years) → pos 2 ≤ℤ i → i ≤ℤ years → k ≤ℤ years → (years +ℤ pos 1) <ℤ (i +ℤ k) → UnseenCell (natAbs years) i k
     go (pos m) (pos a) (pos b) y p q r s = record {

@@ -11,6 +11,7 @@ pub mod RunOff
 pub mod Questions
 pub mod Answers
 pub mod AnswerPlaces
+pub mod QuestionTable
 pub mod Demand1
 pub mod Demand2
 pub mod Demand3

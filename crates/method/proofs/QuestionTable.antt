@@ -7,7 +7,7 @@ use Prim.Native.Nat.{ℕ, _+_, _-_, _≤_, _<_}
 use native.Mathlib.Decide.{decLt}
 use native.Mathlib.Omega.{arith}
 use Rattle.method.specs.Verdicts.{Place, Verdict, accepted, refused, nowhere, _then_, ask, first-to, each-in-row, each-cell}
-use Rattle.method.specs.Demand1.{Question, Passed, Before, FirstNo, AllPassed, FirstNoOf, DecidedBy, question, question-once, Cell}
+use Rattle.method.specs.QuestionTable.{Question, Passed, Before, FirstNo, AllPassed, FirstNoOf, DecidedBy, question, question-once, Cell}
 use Rattle.method.proofs.Tests.{Says, differ}
 use Rattle.method.proofs.FirstRefusal.{not-both, ask-accepted, ask-refused, then-accepted, then-refused, first-accepted, FirstOf, first-refused}
 
