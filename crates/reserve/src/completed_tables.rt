@@ -1,5 +1,6 @@
 // The completed triangle: observed and projected payments, adjustments and outstandings.
 ghost use Prim.Native.Nat.{_≤_};
+ghost use Rattle.method.specs.Limits.{most-accident-years};
 ghost use Rattle.completed.specs.Completed.{CellOfSquare};
 use crate::counts::in_millionths;
 use crate::counts::larger;
@@ -30,7 +31,7 @@ pub(crate) fn print_completed<'a>(
     openings: &'a [i64],
     future: &'a [i64],
 )
-    requires { ⌜ (n ≤ 32) × (cut ≤ 32) ⌝ }
+    requires { ⌜ (n ≤ most-accident-years) × (cut ≤ most-accident-years) ⌝ }
 {
     print(b"\nPayments in units (* projected)\n");
     print_table(
@@ -73,7 +74,7 @@ fn print_table<'a>(
     openings: &'a [i64],
     future: &'a [i64],
 )
-    requires { ⌜ (n ≤ 32) × (cut ≤ 32) ⌝ }
+    requires { ⌜ (n ≤ most-accident-years) × (cut ≤ most-accident-years) ⌝ }
 {
     let column = widest(table, n, cut, payments, adjustments, openings, future);
     print(b"accident year");
@@ -106,7 +107,7 @@ fn widest<'a>(
     openings: &'a [i64],
     future: &'a [i64],
 ) -> usize
-    requires { ⌜ (n ≤ 32) × (cut ≤ 32) ⌝ }
+    requires { ⌜ (n ≤ most-accident-years) × (cut ≤ most-accident-years) ⌝ }
 {
     let mut column = 0;
     let mut i = 1;
@@ -130,7 +131,7 @@ fn widest_in_row<'a>(
     future: &'a [i64],
     i: usize,
 ) -> usize
-    requires { ⌜ (n ≤ 32) × (cut ≤ 32) × (1 ≤ i) × (i ≤ n) ⌝ }
+    requires { ⌜ (n ≤ most-accident-years) × (cut ≤ most-accident-years) × (1 ≤ i) × (i ≤ n) ⌝ }
 {
     let mut column = 0;
     let mut k = 1;
@@ -159,7 +160,7 @@ fn width_of(shown: Shown) -> usize {
 
 // The development years, as headings of their columns.
 fn print_years(n: usize, column: usize)
-    requires { ⌜ n ≤ 32 ⌝ }
+    requires { ⌜ n ≤ most-accident-years ⌝ }
 {
     let mut k = 0;
     while k < n {
@@ -180,7 +181,7 @@ fn print_row<'a>(
     i: usize,
     column: usize,
 )
-    requires { ⌜ (n ≤ 32) × (cut ≤ 32) × (1 ≤ i) × (i ≤ n) ⌝ }
+    requires { ⌜ (n ≤ most-accident-years) × (cut ≤ most-accident-years) × (1 ≤ i) × (i ≤ n) ⌝ }
 {
     let mut k = 1;
     while k <= n {
@@ -211,7 +212,7 @@ fn shown_in<'a>(
     i: usize,
     k: usize,
 ) -> Shown
-    requires { ⌜ CellOfSquare n i k × (cut ≤ 32) ⌝ }
+    requires { ⌜ CellOfSquare n i k × (cut ≤ most-accident-years) ⌝ }
 {
     match table {
         Table::Payments => amount_shown(n, cut, payments, future, 0, i, k),

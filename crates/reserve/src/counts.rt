@@ -2,6 +2,7 @@
 ghost use mathlib.Core.Path.{_≡_};
 ghost use Prim.Native.Nat.{_≤_};
 ghost use lib.IntN.{negℤ};
+ghost use Rattle.method.specs.Limits.{most-accident-years};
 ghost use Rattle.method.specs.Limits.{greatest-amount};
 ghost use Rattle.method.specs.Tests.{from-to};
 use share::millionths::Millionths;
@@ -14,7 +15,7 @@ pub(crate) const FUTURE_FIGURES: usize = 1584;
 
 // A number of years, or 0 where no triangle has as many.
 pub(crate) fn count_of(years: i64) -> usize
-    ensures { λ r. ⌜ r ≤ 32 ⌝ }
+    ensures { λ r. ⌜ r ≤ most-accident-years ⌝ }
 {
     if from_to(0, MOST_YEARS, years) {
         years as usize
@@ -25,7 +26,7 @@ pub(crate) fn count_of(years: i64) -> usize
 
 // The number of cells of a triangle of n rows, the first of n cells.
 pub(crate) fn cells_in(n: usize) -> usize
-    requires { ⌜ n ≤ 32 ⌝ }
+    requires { ⌜ n ≤ most-accident-years ⌝ }
     ensures { λ r. ⌜ r ≤ 528 ⌝ }
 {
     n * (n + 1) / 2

@@ -1,5 +1,6 @@
 // The table of reserves by accident year, with totals.
 ghost use Prim.Native.Nat.{_≤_};
+ghost use Rattle.method.specs.Limits.{most-accident-years};
 use crate::counts::in_millionths;
 use crate::counts::larger;
 use crate::printing::print;
@@ -21,7 +22,7 @@ enum Figure {
 }
 
 pub(crate) fn print_reserves(n: usize, outstandings: [i64; ACCIDENT_YEARS], reserves: &[i64])
-    requires { ⌜ n ≤ 32 ⌝ }
+    requires { ⌜ n ≤ most-accident-years ⌝ }
 {
     let column = widest(n, outstandings, reserves);
     print(b"\nReserves in units\naccident year");
@@ -35,7 +36,7 @@ pub(crate) fn print_reserves(n: usize, outstandings: [i64; ACCIDENT_YEARS], rese
 }
 
 fn print_years(n: usize, outstandings: [i64; ACCIDENT_YEARS], reserves: &[i64], column: usize)
-    requires { ⌜ n ≤ 32 ⌝ }
+    requires { ⌜ n ≤ most-accident-years ⌝ }
 {
     let mut i = 1;
     while i <= n {
@@ -62,7 +63,7 @@ fn print_figure(
     i: usize,
     column: usize,
 )
-    requires { ⌜ (1 ≤ i) × (i ≤ 32) ⌝ }
+    requires { ⌜ (1 ≤ i) × (i ≤ most-accident-years) ⌝ }
 {
     let millionths = figure_of(figure, outstandings, reserves, i);
     print_entry(b"", amount(millionths), column);
@@ -70,7 +71,7 @@ fn print_figure(
 
 // One of the four figures of accident year i, in millionths.
 fn figure_of(figure: Figure, outstandings: [i64; ACCIDENT_YEARS], reserves: &[i64], i: usize) -> i64
-    requires { ⌜ (1 ≤ i) × (i ≤ 32) ⌝ }
+    requires { ⌜ (1 ≤ i) × (i ≤ most-accident-years) ⌝ }
 {
     match figure {
         Figure::LastOutstanding => in_millionths(outstandings[i - 1]),
@@ -81,7 +82,7 @@ fn figure_of(figure: Figure, outstandings: [i64; ACCIDENT_YEARS], reserves: &[i6
 }
 
 fn print_totals(n: usize, outstandings: [i64; ACCIDENT_YEARS], reserves: &[i64], column: usize)
-    requires { ⌜ n ≤ 32 ⌝ }
+    requires { ⌜ n ≤ most-accident-years ⌝ }
 {
     print(b"        total");
     print_total(
@@ -112,7 +113,7 @@ fn print_total(total: Exact, column: usize) {
 
 // The total of one of the four figures.
 fn total(figure: Figure, n: usize, outstandings: [i64; ACCIDENT_YEARS], reserves: &[i64]) -> Exact
-    requires { ⌜ n ≤ 32 ⌝ }
+    requires { ⌜ n ≤ most-accident-years ⌝ }
 {
     let mut total = 0;
     let mut i = 1;
@@ -129,7 +130,7 @@ fn total(figure: Figure, n: usize, outstandings: [i64; ACCIDENT_YEARS], reserves
 
 // The width of the widest entry: a figure, a total or the widest heading.
 fn widest(n: usize, outstandings: [i64; ACCIDENT_YEARS], reserves: &[i64]) -> usize
-    requires { ⌜ n ≤ 32 ⌝ }
+    requires { ⌜ n ≤ most-accident-years ⌝ }
 {
     let last = widest_of(Figure::LastOutstanding, n, outstandings, reserves);
     let paid = widest_of(Figure::PaidReserve, n, outstandings, reserves);
@@ -145,7 +146,7 @@ fn widest_of(
     outstandings: [i64; ACCIDENT_YEARS],
     reserves: &[i64],
 ) -> usize
-    requires { ⌜ n ≤ 32 ⌝ }
+    requires { ⌜ n ≤ most-accident-years ⌝ }
 {
     let mut column = total_width(total(figure, n, outstandings, reserves));
     let mut i = 1;

@@ -1,5 +1,6 @@
 // The table of the ratios' sums.
 ghost use Prim.Native.Nat.{_≤_};
+ghost use Rattle.method.specs.Limits.{most-accident-years};
 use crate::counts::larger;
 use crate::printing::print;
 use crate::printing::print_entry;
@@ -10,7 +11,7 @@ use triangle::ratios::Sums;
 use verdicts::limits::DEVELOPMENT_YEARS;
 
 pub(crate) fn print_sums(n: usize, ratios: [Sums; DEVELOPMENT_YEARS])
-    requires { ⌜ n ≤ 32 ⌝ }
+    requires { ⌜ n ≤ most-accident-years ⌝ }
 {
     print(b"\nSums of the ratios: payment ratio P / D, adjustment ratio Q / D\n");
     let column = widest(n, ratios);
@@ -35,7 +36,7 @@ fn print_year(sums: Sums, column: usize) {
 }
 
 fn widest(n: usize, ratios: [Sums; DEVELOPMENT_YEARS]) -> usize
-    requires { ⌜ n ≤ 32 ⌝ }
+    requires { ⌜ n ≤ most-accident-years ⌝ }
 {
     let mut column = 1;
     let mut j = 0;

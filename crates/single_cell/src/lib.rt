@@ -133,7 +133,7 @@ fn question_9(n: usize, development: Development) -> Verdict
 }
 
 // Three for each development year but the first.
-const FIGURES_OF_A_ROW: usize = 93;
+const FIGURES_OF_A_ROW: usize = 3 * DEVELOPMENT_YEARS;
 
 // ---- The cell
 

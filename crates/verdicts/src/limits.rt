@@ -18,9 +18,9 @@ pub const GREATEST_OUTSTANDING: i64 = 1_000_000_000;
 pub const GREATEST_FIGURE: i64 = 10_000_000_000_000_000;
 
 // Room for the last observed outstanding of every accident year, and for the sums of every development year but the last.
-pub const ACCIDENT_YEARS: usize = 32;
+pub const ACCIDENT_YEARS: usize = MOST_YEARS as usize;
 
-pub const DEVELOPMENT_YEARS: usize = 31;
+pub const DEVELOPMENT_YEARS: usize = ACCIDENT_YEARS - 1;
 
 // Whether low ≤ x ≤ high.
 pub fn from_to(low: i64, high: i64, x: i64) -> bool
