@@ -73,5 +73,5 @@ module _ {t : Triangle} {future-before reserves-before : List ℤ} where
 pub with-demands : (t : Triangle) (f r : ℕ) {v : Verdict} {future reserves : List ℤ} → answer-of v future reserves ≡ answer t f r
     → (answer-of v future reserves ≡ answer t f r)
     × (Demand-1 t f r v future reserves
-    × ((v ≡ accepted → Demand-2 (method t) future reserves) × (v ≡ accepted → Demand-3 (method t) future reserves)))
+    × ((v ≡ accepted → Demand-2 t future reserves) × (v ≡ accepted → Demand-3 (method t) future reserves)))
 with-demands t f r e = (e, (demand-1-of-answer t f r e, (demand-2-of-answer t f r e, demand-3-of-answer t f r e)))

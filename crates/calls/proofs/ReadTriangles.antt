@@ -9,7 +9,7 @@ use Rattle.method.proofs.QuestionFacts as facts
 use Rattle.method.proofs.QuestionFacts.{Observed, observed-triangle, exposures-positive, says-lengths}
 use Rattle.questions.specs.declared.inputs.AnswerLists.{AnswerLists}
 use Rattle.questions.specs.declared.inputs.AnswerLists.the-variants.{OfLengths}
-use Rattle.questions.specs.Lent.{lists-right}
+use Rattle.questions.specs.Inputs.{lists-right}
 use Rattle.questions.proofs.Counted.{lists-have-lengths}
 use Rattle.verdicts.specs.Verdicts.{verdict-of}
 use Rattle.triangle.specs.declared.reading.Reading.{Reading}

@@ -8,7 +8,7 @@ ghost use Rattle.method.specs.Demand1.{Demand-1};
 ghost use Rattle.method.specs.Demand2.{Demand-2};
 ghost use Rattle.method.specs.Demand3.{Demand-3};
 ghost use Rattle.verdicts.specs.Verdicts.{verdict-of};
-ghost use Rattle.questions.specs.Lent.{lent};
+ghost use Rattle.questions.specs.Inputs.{triangle-of};
 ghost use Rattle.calls.specs.Answers.{answer-of, Filled};
 use crate::projected_rows::project;
 use projection::lists::clear;
@@ -30,17 +30,17 @@ pub fn reserve<'a>(
 ) -> Verdict
     ensures whole { λ r. ⌜ answer-of (verdict-of r) (now (future .exit)) (now (reserves .exit))
         ≡ answer
-        (lent years cut (now (payments .entry)) (now (adjustments .entry)) (now (weights .entry)) (now (openings .entry)))
+        (triangle-of years cut (now (payments .entry)) (now (adjustments .entry)) (now (weights .entry)) (now (openings .entry)))
         (length (now (future .entry))) (length (now (reserves .entry))) ⌝ }
     ensures demand_1 { λ r. ⌜ Demand-1
-        (lent years cut (now (payments .entry)) (now (adjustments .entry)) (now (weights .entry)) (now (openings .entry)))
+        (triangle-of years cut (now (payments .entry)) (now (adjustments .entry)) (now (weights .entry)) (now (openings .entry)))
         (length (now (future .entry))) (length (now (reserves .entry)))
         (verdict-of r) (now (future .exit)) (now (reserves .exit)) ⌝ }
     ensures demand_2 { λ r. ⌜ (verdict-of r ≡ accepted → Demand-2
-        (method (lent years cut (now (payments .entry)) (now (adjustments .entry)) (now (weights .entry)) (now (openings .entry))))
+        (triangle-of years cut (now (payments .entry)) (now (adjustments .entry)) (now (weights .entry)) (now (openings .entry)))
         (now (future .exit)) (now (reserves .exit))) ⌝ }
     ensures demand_3 { λ r. ⌜ (verdict-of r ≡ accepted → Demand-3
-        (method (lent years cut (now (payments .entry)) (now (adjustments .entry)) (now (weights .entry)) (now (openings .entry))))
+        (method (triangle-of years cut (now (payments .entry)) (now (adjustments .entry)) (now (weights .entry)) (now (openings .entry))))
         (now (future .exit)) (now (reserves .exit))) ⌝ }
 {
     let verdict = fill(
@@ -73,7 +73,7 @@ fn fill<'a>(
     reserves: &mut [i64],
 ) -> Verdict
     ensures { λ r. ⌜ Filled
-        (lent years cut (now (payments .entry)) (now (adjustments .entry)) (now (weights .entry)) (now (openings .entry)))
+        (triangle-of years cut (now (payments .entry)) (now (adjustments .entry)) (now (weights .entry)) (now (openings .entry)))
         (now (future .entry)) (now (reserves .entry)) (verdict-of r) (now (future .exit)) (now (reserves .exit)) ⌝ }
 {
     let answers = AnswerLists::OfLengths(future.len(), reserves.len());

@@ -2,7 +2,7 @@
 ghost use mathlib.Core.Path.{_≡_};
 ghost use lib.ListN.{length};
 ghost use Rattle.verdicts.specs.Verdicts.{verdict-of};
-ghost use Rattle.questions.specs.Lent.{lent};
+ghost use Rattle.questions.specs.Inputs.{triangle-of};
 ghost use Rattle.juniperprow.specs.HostAnswers.{verdict-answer, ReserveAnswered, CellAnswered, RowAnswered};
 use calls::reserve::reserve;
 use rows::AmountList;
@@ -40,7 +40,7 @@ pub extern "C" fn juniperprow_reserve<'a>(
     reserves: &mut [i64],
 ) -> VerdictAnswer
     ensures { λ r. ⌜ ReserveAnswered
-        (lent years cut (now (payments .entry)) (now (adjustments .entry)) (now (weights .entry)) (now (openings .entry)))
+        (triangle-of years cut (now (payments .entry)) (now (adjustments .entry)) (now (weights .entry)) (now (openings .entry)))
         (length (now (future .entry))) (length (now (reserves .entry))) r (now (future .exit)) (now (reserves .exit)) ⌝ }
 {
     let verdict = reserve(
@@ -69,7 +69,7 @@ pub extern "C" fn juniperprow_single_cell<'a>(
     development_year: i64,
 ) -> CellAnswer
     ensures { λ r. ⌜ CellAnswered
-        (lent years cut (now (payments .entry)) (now (adjustments .entry)) (now (weights .entry)) (now (openings .entry)))
+        (triangle-of years cut (now (payments .entry)) (now (adjustments .entry)) (now (weights .entry)) (now (openings .entry)))
         «accident_year» «development_year» r ⌝ }
 {
     let cell = single_cell(

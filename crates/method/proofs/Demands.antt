@@ -22,8 +22,8 @@ module _ (t : Triangle) (f r : ℕ) {a : Answer} (e : a ≡ answer t f r) where
   pub demand-1-of-answer : Demand-1 t f r (a .verdict) (a .future) (a .reserves)
   demand-1-of-answer = subst (λ (x : Answer). Demand-1 t f r (x .verdict) (x .future) (x .reserves)) (sym e) (demand-1 .both-lists t f r)
 
-  pub demand-2-of-answer : a .verdict ≡ accepted → Demand-2 (method t) (a .future) (a .reserves)
-  demand-2-of-answer h = subst (λ (x : Answer). Demand-2 (method t) (x .future) (x .reserves)) (sym e) (demand-2 t f r (said h))
+  pub demand-2-of-answer : a .verdict ≡ accepted → Demand-2 t (a .future) (a .reserves)
+  demand-2-of-answer h = subst (λ (x : Answer). Demand-2 t (x .future) (x .reserves)) (sym e) (demand-2 t f r (said h))
 
   pub demand-3-of-answer : a .verdict ≡ accepted → Demand-3 (method t) (a .future) (a .reserves)
   demand-3-of-answer h = subst (λ (x : Answer). Demand-3 (method t) (x .future) (x .reserves)) (sym e) (demand-3 t f r (said h))

@@ -1,4 +1,4 @@
--- Laws of the definitions and proofs of the statements in specs/. From below: tests and verdicts, lists, sums, any rule of a year, the projection, the claim, the theorem of the 2008 paper.
+-- Laws of the definitions and proofs of the statements in specs/. From below: tests and verdicts, lists, sums, any rule of a year, the projection, the demands, the theorem of the 2008 paper.
 pub mod Examples
 pub mod Tests
 pub mod Counting

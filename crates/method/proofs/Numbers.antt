@@ -9,7 +9,7 @@ use Rattle.method.specs.Verdicts.{Place, Verdict, accepted, refused, num
 use Rattle.method.specs.Triangle.{Triangle}
 use Rattle.method.specs.Answers.{CellAnswer}
 use Rattle.method.specs.QuestionTable.{Question, FirstNoOf, DecidedBy}
-use Rattle.method.specs.Demand1.{triangle-questions, InputLengthsRight, LengthsRight, Demand-1, unseen-question, cell-questions, Demand-1-of-cell}
+use Rattle.method.specs.Demand1.{triangle-questions, InputLengthsRight, LengthsRight, Demand-1, unseen-question, cell-questions, Demand-1-of-cell, row-questions, Demand-1-of-row}
 
 abbrev AllNumbered : List Question → Type 0
 AllNumbered [] = Unit {0}
@@ -39,3 +39,8 @@ number-0-of-call {t} {f} {r} {v} d = number-0-is-accepted _ (triangle-numbered t
 pub number-0-of-cell : {t : Triangle} {i k : ℤ} {c : CellAnswer} → Demand-1-of-cell t i k c → number (c .verdict) ≡ 0 → c .verdict ≡ accepted
 number-0-of-cell {t} {i} {k} {c} d =
     number-0-is-accepted (cell-questions t i k) (triangle-numbered t (InputLengthsRight t) (unseen-question (t .years) i k ∷ []) ((λ i k. omega arith), tt)) (c .verdict) (d .decided)
+
+pub number-0-of-row : (years : ℤ) (payment-list adjustment-list : List ℤ) (i : ℤ) {v : Verdict}
+    → Demand-1-of-row years payment-list adjustment-list i v → number v ≡ 0 → v ≡ accepted
+number-0-of-row years payment-list adjustment-list i {v} d =
+    number-0-is-accepted (row-questions years payment-list adjustment-list i) ((λ i k. omega arith), ((λ i k. omega arith), ((λ i k. omega arith), tt))) v d

@@ -69,19 +69,19 @@ module _ (r : ℤ) (s : Sums) (h : pos 0 <ℤ s .D) where
 
 -- ---- An accepted triangle
 
-module _ (t : Triangle) (ok : Accepted t) where
-  -- where the oldest year's last outstanding is 0, so is the last outstanding factor
-  pub last-factor-zero : (k : ℕ) → suc k ≡ n t → R t 1 (n t) ≡ pos 0 → sums t k .D -ℤ sums t k .P +ℤ sums t k .Q ≡ pos 0
-  unfolding up-to
-  last-factor-zero k e z =
-      let s : n t - k ≡ 1 = omega arith in
-      factor-is t k
-      ∙ ap (λ (m : ℕ). sum-to m (λ i. w t i k *ℤ R t i (suc k))) s
-      ∙ +ℤ-idl (w t 1 k *ℤ R t 1 (suc k))
-      ∙ ap (λ (m : ℕ). w t 1 k *ℤ R t 1 m) e
-      ∙ ap (λ x. w t 1 k *ℤ x) z
-      ∙ *ℤ-zero (w t 1 k)
+-- where the oldest year's last outstanding is 0, so is the last outstanding factor
+pub last-factor-zero : (t : Triangle) (k : ℕ) → suc k ≡ n t → R t 1 (n t) ≡ pos 0 → sums t k .D -ℤ sums t k .P +ℤ sums t k .Q ≡ pos 0
+unfolding up-to
+last-factor-zero t k e z =
+    let s : n t - k ≡ 1 = omega arith in
+    factor-is t k
+    ∙ ap (λ (m : ℕ). sum-to m (λ i. w t i k *ℤ R t i (suc k))) s
+    ∙ +ℤ-idl (w t 1 k *ℤ R t 1 (suc k))
+    ∙ ap (λ (m : ℕ). w t 1 k *ℤ R t 1 m) e
+    ∙ ap (λ x. w t 1 k *ℤ x) z
+    ∙ *ℤ-zero (w t 1 k)
 
+module _ (t : Triangle) (ok : Accepted t) where
   -- the sums by which a cell is projected
   in-range : (i k : ℕ) → Projected (n t) i k → SumsInRange (sums t k)
   in-range i k p =
@@ -94,5 +94,5 @@ module _ (t : Triangle) (ok : Accepted t) where
     some-year = omega (arith, ok .observed .years .fewest);
     moves = λ i k r. refl;
     year = λ i k p r u a b. year-kept r (sums t k) (in-range i k p .D-positive) u a b (in-range i k p .factor-nonneg);
-    closes = λ z i k p e. next-zero (O (method t) i k) (sums t k) (in-range i k p .D-positive) (last-factor-zero k e z);
+    closes = λ z i k p e. next-zero (O (method t) i k) (sums t k) (in-range i k p .D-positive) (last-factor-zero t k e z);
   }

@@ -14,7 +14,7 @@ use Rattle.method.specs.Outstandings.{R, sums}
 use Rattle.method.specs.RunOff.{movement, year-before, method}
 use Rattle.method.specs.Questions.{lengths-right, figures-in-range, question-1, question-2, question-3, question-4, question-5, question-6, question-7, question-8, question-9-of-year, question-9, list-questions, input-questions, observed-questions, questions, accident-year-in-range, question-10}
 use Rattle.method.specs.Answers.{answer, cell-verdict, single-cell, both-lengths-right, row-verdict}
-use Rattle.method.specs.QuestionTable.{Question, question, DecidedBy}
+use Rattle.method.specs.QuestionTable.{Question, question-of-cells, DecidedBy}
 use Rattle.method.specs.Demand1.{Figures-right, triangle-questions, Demand-1-of-every-call}
 use Rattle.method.proofs.WholeAnswers.{filled-verdict, filled-zeros, cell-figures-verdict, cell-figures-zeros}
 use Rattle.method.proofs.FirstRefusal.{then-assoc, then-none}
@@ -40,7 +40,7 @@ module _ (t : Triangle) where
   in-order right later = simp then-assoc
 
   -- question 9: row by row, and in row i the years after the last observed one
-  question-9-answers : Answers (question-9 t) (question 9 (λ i k. (i ≤ n t) × (k ≤ n t) × (n t + 1 < i + k)) (λ i k. Figures-right (movement (method t) i (k - 1))))
+  question-9-answers : Answers (question-9 t) (question-of-cells 9 (λ i k. (i ≤ n t) × (k ≤ n t) × (n t + 1 < i + k)) (λ i k. Figures-right (movement (method t) i (k - 1))))
   unfolding question-9 question-9-of-year
   question-9-answers =
       asked-row-by-row _ (n t) (question-9-of-year t) (λ i k x. (omega (arith, x .1, x .2), x .0))

@@ -7,7 +7,7 @@ use Prim.Native.Nat.{ℕ, _+_, _-_, _≤_, _<_}
 use native.Mathlib.Decide.{decLt}
 use native.Mathlib.Omega.{arith}
 use Rattle.method.specs.Verdicts.{Place, Verdict, accepted, refused, nowhere, _then_, ask, first-to, each-in-row, each-cell}
-use Rattle.method.specs.QuestionTable.{Question, Passed, Before, FirstNo, AllPassed, FirstNoOf, DecidedBy, question, question-once, Cell}
+use Rattle.method.specs.QuestionTable.{Question, Passed, Before, FirstNo, AllPassed, FirstNoOf, DecidedBy, question-of-cells, question-once, Cell}
 use Rattle.method.proofs.Tests.{Says, differ}
 use Rattle.method.proofs.FirstRefusal.{not-both, ask-accepted, ask-refused, then-accepted, then-refused, first-accepted, FirstOf, first-refused}
 
@@ -128,11 +128,11 @@ asked-row-by-row q m f inside each = record {
 
 -- every cell of m rows, of m, m − 1, … cells, with one number
 pub asked-cell-by-cell : (number m : ℕ) {asked-at wants : ℕ → ℕ → Type 0} (test : ℕ → ℕ → Bool) → ((i k : ℕ) → asked-at i k → Cell (m + 1) i k)
-    → ((i k : ℕ) → Cell (m + 1) i k → Told (test i k) (asked-at i k) (wants i k)) → Answers (each-cell m number test) (question number asked-at wants)
+    → ((i k : ℕ) → Cell (m + 1) i k → Told (test i k) (asked-at i k) (wants i k)) → Answers (each-cell m number test) (question-of-cells number asked-at wants)
 unfolding each-cell each-in-row
 asked-cell-by-cell number m {asked-at} {wants} test inside cell =
-    asked-row-by-row (question number asked-at wants) m (each-in-row m number test) (λ i k x. let (p, r, l) = inside i k x in (p, omega (arith, r, l)))
-    (λ i p l. asked-in-row (in-row i (question number asked-at wants)) i (m + 1 - i) (λ j. j) (test i)
+    asked-row-by-row (question-of-cells number asked-at wants) m (each-in-row m number test) (λ i k x. let (p, r, l) = inside i k x in (p, omega (arith, r, l)))
+    (λ i p l. asked-in-row (in-row i (question-of-cells number asked-at wants)) i (m + 1 - i) (λ j. j) (test i)
     (λ a k x. (x .0, let (c, d, e) = inside a k (x .1) in record { j = k; first = d; last = omega (arith, e, x .0); is = refl }))
     (λ j j′ r. r)
     (λ j f e. in-own-row (cell i j (p, f, omega arith))))

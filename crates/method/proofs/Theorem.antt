@@ -18,9 +18,8 @@ use Rattle.method.specs.Outstandings.{R, sums}
 use Rattle.method.specs.ProjectedYear.{unrounded-year}
 use Rattle.method.specs.RunOff.{Method, U, unrounded-movement, last-observed, first-outstanding, year-before, unrounded-paid, unrounded-incurred, method}
 use Rattle.method.specs.AnswerPlaces.{Projected, AccidentYear}
-use Rattle.method.specs.Theorem.{product, sum, α, β, f, Unseen, projected-S, projected-T, last-R, Theorem-3-2, Theorem-3-2-of-every-accepted-triangle}
+use Rattle.method.specs.Theorem.{product-from-to, sum-from-to, α, β, f, Unseen, projected-S, projected-T, last-R, Theorem-3-2, RatiosExist, Theorem-3-2-wherever-ratios-exist, Theorem-3-2-of-every-accepted-triangle}
 use Rattle.method.proofs.Counting.{up-to-none, up-to-more, up-to-same, up-to-keeps}
-use Rattle.method.proofs.QuestionFacts.{Accepted}
 use Rattle.method.proofs.SumBounds.{factor-is}
 use Rattle.method.proofs.RunOff.{U-observed, U-projected}
 use Rattle.method.proofs.Projection.{last-factor-zero}
@@ -117,22 +116,22 @@ module _ (m : Method) (rule : MovesUnrounded m) (i : ℕ) (y : AccidentYear (m .
 
 -- ---- Products and sums from a first year to a last
 
-product-of-none : (first last : ℕ) (g : ℕ → Fraction) → last < first → product first last g ≡ pos 1 over pos 1
+product-of-none : (first last : ℕ) (g : ℕ → Fraction) → last < first → product-from-to first last g ≡ pos 1 over pos 1
 product-of-none first last g l =
     let none : last + 1 - first ≡ 0 = omega arith in
     ap (λ (c : ℕ). up-to _⊗_ (pos 1 over pos 1) c (λ j. g (first + j - 1))) none ∙ up-to-none _⊗_ (pos 1 over pos 1) _
 
-product-to-next-year : (first k : ℕ) (g : ℕ → Fraction) → 1 ≤ first → first ≤ k → product first (suc k - 1) g ≡ product first (k - 1) g ⊗ g k
+product-to-next-year : (first k : ℕ) (g : ℕ → Fraction) → 1 ≤ first → first ≤ k → product-from-to first (suc k - 1) g ≡ product-from-to first (k - 1) g ⊗ g k
 product-to-next-year first k g a l =
     let one-more : suc k - 1 + 1 - first ≡ suc (k - 1 + 1 - first) = omega arith in
     let last : first + suc (k - 1 + 1 - first) - 1 ≡ k = omega arith in
     ap (λ (c : ℕ). up-to _⊗_ (pos 1 over pos 1) c (λ j. g (first + j - 1))) one-more
     ∙ up-to-more _⊗_ (pos 1 over pos 1) (k - 1 + 1 - first) _
-    ∙ ap (λ (x : ℕ). product first (k - 1) g ⊗ g x) last
+    ∙ ap (λ (x : ℕ). product-from-to first (k - 1) g ⊗ g x) last
 
 -- the j-th projected year is year n + 1 − i + j
 sum-over-projected-years : (n i : ℕ) → AccidentYear n i → (g : ℕ → Fraction)
-    → fractions-to (i - 1) (λ j. g (n - i + j)) ≡ sum (n + 2 - i) n (λ k. g (k - 1))
+    → fractions-to (i - 1) (λ j. g (n - i + j)) ≡ sum-from-to (n + 2 - i) n (λ k. g (k - 1))
 sum-over-projected-years n i y g =
     let count : i - 1 ≡ n + 1 - (n + 2 - i) = omega (arith, y .last) in
     up-to-same _⊕_ (pos 0 over pos 1) (i - 1) _ (λ j. g (n + 2 - i + j - 1 - 1)) (λ j l. ap g (year-of j))
@@ -142,19 +141,19 @@ sum-over-projected-years n i y g =
     year-of j = omega (arith, y .last)
 
 module _ (t : Triangle) (i : ℕ) (y : AccidentYear (n t) i) where
-  paid-reserve-is-sum : unrounded-paid (method t) i ≡ sum (n t + 2 - i) (n t) (projected-S t i)
+  paid-reserve-is-sum : unrounded-paid (method t) i ≡ sum-from-to (n t + 2 - i) (n t) (projected-S t i)
   unfolding unrounded-paid
   paid-reserve-is-sum = sum-over-projected-years (n t) i y (λ k. unrounded-movement (method t) i k .payment)
 
-  incurred-reserve-is-sum : unrounded-incurred (method t) i ≡ last-R t i ⊕ sum (n t + 2 - i) (n t) (projected-T t i)
+  incurred-reserve-is-sum : unrounded-incurred (method t) i ≡ last-R t i ⊕ sum-from-to (n t + 2 - i) (n t) (projected-T t i)
   unfolding unrounded-incurred
   incurred-reserve-is-sum = ap (λ (x : Fraction). last-R t i ⊕ x) (sum-over-projected-years (n t) i y (λ k. unrounded-movement (method t) i k .adjustment))
 
 -- ---- The rule of document 01
 
-module _ (t : Triangle) (ok : Accepted t) where
+module _ (t : Triangle) (exist : RatiosExist t) where
   exposed : (i k : ℕ) → Projected (n t) i k → pos 0 <ℤ sums t k .D
-  exposed i k p = ok .exposure k (omega (arith, p .row, p .after)) (p .year)
+  exposed i k p = exist k (omega (arith, p .row, p .after)) (p .year)
 
   pub method-moves : MovesUnrounded (method t)
   unfolding unrounded-year
@@ -167,22 +166,22 @@ module _ (t : Triangle) (ok : Accepted t) where
   -- ---- The factor
 
   factor-is-one-less-payment-plus-adjustment : (k : ℕ) → 1 ≤ k → k < n t → f t k ≈ pos 1 over pos 1 ⊖ α t k ⊕ β t k
-  factor-is-one-less-payment-plus-adjustment k a b = numerators-apart (sums t k .P) (sums t k .Q) (sums t k .D) (ok .exposure k a b)
+  factor-is-one-less-payment-plus-adjustment k a b = numerators-apart (sums t k .P) (sums t k .Q) (sums t k .D) (exist k a b)
 
   factor-is-ratio-of-outstandings : (k : ℕ) → 1 ≤ k → k < n t
       → f t k ≈ sum-to (n t - k) (λ i. w t i k *ℤ R t i (k + 1)) over sum-to (n t - k) (λ i. w t i k *ℤ R t i k)
   unfolding sums
   factor-is-ratio-of-outstandings k a b =
       let next : suc k ≡ k + 1 = omega arith in
-      same-≡ (ok .exposure k a b)
+      same-≡ (exist k a b)
       (ap (λ x. x over sums t k .D) (factor-is t k ∙ ap (λ (x : ℕ). sum-to (n t - k) (λ i. w t i k *ℤ R t i x)) next))
 
   factor-of-last-year-is-zero : R t 1 (n t) ≡ pos 0 → (k : ℕ) → 1 ≤ k → suc k ≡ n t → f t k ≈ pos 0 over pos 1
   factor-of-last-year-is-zero z k a e =
-      let exposure = ok .exposure k a (omega arith) in
-      same-≡ exposure (ap (λ x. x over sums t k .D) (last-factor-zero t ok k e z)) and-so zero-over (sums t k .D) exposure
+      let exposure = exist k a (omega arith) in
+      same-≡ exposure (ap (λ x. x over sums t k .D) (last-factor-zero t k e z)) and-so zero-over (sums t k .D) exposure
 
-  -- ---- An outstanding is a product of factors
+  -- ---- An outstanding is a product-from-to of factors
 
   module _ (i : ℕ) (y : AccidentYear (n t) i) where
     abbrev u : ℕ → Fraction
@@ -199,11 +198,11 @@ module _ (t : Triangle) (ok : Accepted t) where
 
     -- of the years before year k
     abbrev factors : ℕ → Fraction
-    factors k = product (last-observed (method t) i) (k - 1) (f t)
+    factors k = product-from-to (last-observed (method t) i) (k - 1) (f t)
 
     factors-are-number : (k : ℕ) → k ≤ n t → IsNumber (factors k)
     factors-are-number k l = up-to-keeps _⊗_ (pos 1 over pos 1) IsNumber (ltZ-yes tt) ⊗-is-number _ _
-        (λ j a b. ok .exposure _ (omega (arith, y .last)) (omega (arith, y .last)))
+        (λ j a b. exist _ (omega (arith, y .last)) (omega (arith, y .last)))
 
     last-observed-is-product : (k : ℕ) → k ≡ last-observed (method t) i → u k ≈ last-R t i ⊗ factors k
     last-observed-is-product k e =
@@ -260,30 +259,40 @@ module _ (t : Triangle) (ok : Accepted t) where
 
 -- ---- The theorem
 
-module _ (t : Triangle) (ok : Accepted t) where
+module _ (t : Triangle) (exist : RatiosExist t) where
   accident-year : (i k : ℕ) → Unseen t i k → AccidentYear (n t) i
   accident-year i k p = record { first = omega (arith, p .after, p .year); last = p .row }
 
+  share-turned : (i k : ℕ) → Unseen t i k → (ratio : Fraction) → IsNumber ratio → U (method t) i (k - 1) ⊗ ratio ≈ ratio ⊗ U (method t) i (k - 1)
+  share-turned i k p ratio h =
+      let number = outstanding-is-number (method t) (method-moves t exist) i (accident-year i k p) (k - 1) (omega (arith, p .year)) in
+      fractions 2 (λ u r. u :* r := r :* u) (tt, tt, tt) (U (method t) i (k - 1)) ratio (number, (h, tt))
+
   share-of-unseen-cell : (i k : ℕ) → Unseen t i k → (ratio : Fraction) → IsNumber ratio
-      → U (method t) i (k - 1) ⊗ ratio ≈ ratio ⊗ last-R t i ⊗ product (n t + 1 - i) (k - 2) (f t)
+      → U (method t) i (k - 1) ⊗ ratio ≈ ratio ⊗ last-R t i ⊗ product-from-to (n t + 1 - i) (k - 2) (f t)
   share-of-unseen-cell i k p ratio h =
       let two-before : k - 1 - 1 ≡ k - 2 = omega arith in
-      subst (λ (x : ℕ). U (method t) i (k - 1) ⊗ ratio ≈ ratio ⊗ last-R t i ⊗ product (n t + 1 - i) x (f t)) two-before
-      (share-is-product-of-factors t ok i (accident-year i k p) ratio h (k - 1) (p .after) (omega (arith, p .year)))
+      subst (λ (x : ℕ). U (method t) i (k - 1) ⊗ ratio ≈ ratio ⊗ last-R t i ⊗ product-from-to (n t + 1 - i) x (f t)) two-before
+      (share-is-product-of-factors t exist i (accident-year i k p) ratio h (k - 1) (p .after) (omega (arith, p .year)))
 
-  theorem-3-2-of-accepted-triangle : Theorem-3-2 t
+  in-all : Theorem-3-2 t
   unfolding unrounded-movement unrounded-year
-  theorem-3-2-of-accepted-triangle = record {
-    factor = factor-is-one-less-payment-plus-adjustment t ok;
-    factor-of-outstandings = factor-is-ratio-of-outstandings t ok;
-    payment = λ i k p. share-of-unseen-cell i k p (α t (k - 1)) (exposed t ok i (k - 1) p);
-    adjustment = λ i k p. share-of-unseen-cell i k p (β t (k - 1)) (exposed t ok i (k - 1) p);
-    outstanding = λ i k p. outstanding-is-product-of-factors t ok i (accident-year i k p) k (omega (arith, p .after)) (omega (arith, p .year));
-    no-gap = λ z i y. rw (sym (paid-reserve-is-sum t i y), sym (incurred-reserve-is-sum t i y)) (unrounded-reserves-same t ok i y z);
+  in-all = record {
+    factor = factor-is-one-less-payment-plus-adjustment t exist;
+    factor-of-outstandings = factor-is-ratio-of-outstandings t exist;
+    payment-of-outstanding = λ i k p. share-turned i k p (α t (k - 1)) (exposed t exist i (k - 1) p);
+    payment = λ i k p. share-of-unseen-cell i k p (α t (k - 1)) (exposed t exist i (k - 1) p);
+    adjustment-of-outstanding = λ i k p. share-turned i k p (β t (k - 1)) (exposed t exist i (k - 1) p);
+    adjustment = λ i k p. share-of-unseen-cell i k p (β t (k - 1)) (exposed t exist i (k - 1) p);
+    outstanding = λ i k p. outstanding-is-product-of-factors t exist i (accident-year i k p) k (omega (arith, p .after)) (omega (arith, p .year));
+    no-gap = λ z i y. rw (sym (paid-reserve-is-sum t i y), sym (incurred-reserve-is-sum t i y)) (unrounded-reserves-same t exist i y z);
     paid-side = paid-reserve-is-sum t;
     incurred-side = incurred-reserve-is-sum t;
-    gap = reserves-apart-by-last-outstanding (method t) (method-moves t ok);
+    gap = reserves-apart-by-last-outstanding (method t) (method-moves t exist);
   }
 
-pub theorem-3-2 : Theorem-3-2-of-every-accepted-triangle
-theorem-3-2 t f r e = theorem-3-2-of-accepted-triangle t (triangle-of-accepted-answer t f r e)
+pub theorem-3-2 : Theorem-3-2-wherever-ratios-exist
+theorem-3-2 t exist = in-all t exist
+
+pub theorem-3-2-accepted : Theorem-3-2-of-every-accepted-triangle
+theorem-3-2-accepted t f r e = theorem-3-2 t (triangle-of-accepted-answer t f r e .exposure)

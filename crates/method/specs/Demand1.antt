@@ -1,5 +1,6 @@
 -- Demand 1: which calls are accepted, and by which question and at which place each other call is refused.
 -- "Questions at the counter" of document 01 once more, as tables of plain statements with the numbers that it prints. Read it beside document 01.
+-- What the cells hold, R, the sums and the movements are the definitions'; the ranges, the cells, the order, the numbers and the places are written out again.
 use mathlib.Core.Path.{_≡_}
 use mathlib.Core.List.{List, [], _∷_, _++_}
 use Prim.Native.Nat.{ℕ, _+_, _*_, _-_, _/_, _≤_, _<_}
@@ -12,7 +13,7 @@ use Rattle.method.specs.Triangle.{Triangle, n, Y, S, T, w}
 use Rattle.method.specs.Outstandings.{R, sums}
 use Rattle.method.specs.ProjectedYear.{Movement}
 use Rattle.method.specs.RunOff.{movement, method}
-use Rattle.method.specs.QuestionTable.{Question, DecidedBy, question, question-once, From-to, Cell}
+use Rattle.method.specs.QuestionTable.{Question, DecidedBy, question-of-cells, question-once, From-to, Cell}
 use Rattle.method.specs.Answers.{Answer, answer, CellAnswer, single-cell, row-verdict}
 
 -- ---- The questions of document 01
@@ -38,13 +39,13 @@ triangle-questions t Lengths =
     years-question (t .years)
     ∷ question-once 2 (From-to (pos 1) (t .years -ℤ pos 1) (t .cut))
     ∷ question-once 3 Lengths
-    ∷ question 4 (Cell (n t)) (λ i k. From-to (pos 0) (pos 100) (w t i k))
-    ∷ question 5 (Cell (n t + 1)) (λ i k. Amount-right (Y t) i k (S t i k))
-    ∷ question 5 (Cell (n t + 1)) (λ i k. Amount-right (Y t) i k (T t i k))
-    ∷ question 6 (λ i k. Cell (n t + 1) i k × (Y t ≤ i + k)) (λ i k. From-to (pos 0) (pos 1_000_000_000) (R t i k))
-    ∷ question 7 (λ i k. Cell (n t) i k × (i + k ≤ Y t)) (λ i k. w t i k ≡ pos 0)
-    ∷ question 8 (λ i k. (i ≡ 0) × (1 ≤ k) × (k ≤ n t - 1)) (λ i k. pos 0 <ℤ sums t k .D)
-    ∷ question 9 (λ i k. (i ≤ n t) × (k ≤ n t) × (n t + 1 < i + k)) (λ i k. Figures-right (movement (method t) i (k - 1)))
+    ∷ question-of-cells 4 (Cell (n t)) (λ i k. From-to (pos 0) (pos 100) (w t i k))
+    ∷ question-of-cells 5 (Cell (n t + 1)) (λ i k. Amount-right (Y t) i k (S t i k))
+    ∷ question-of-cells 5 (Cell (n t + 1)) (λ i k. Amount-right (Y t) i k (T t i k))
+    ∷ question-of-cells 6 (λ i k. Cell (n t + 1) i k × (Y t ≤ i + k)) (λ i k. From-to (pos 0) (pos 1_000_000_000) (R t i k))
+    ∷ question-of-cells 7 (λ i k. Cell (n t) i k × (i + k ≤ Y t)) (λ i k. w t i k ≡ pos 0)
+    ∷ question-of-cells 8 (λ i k. (i ≡ 0) × (1 ≤ k) × (k ≤ n t - 1)) (λ i k. pos 0 <ℤ sums t k .D)
+    ∷ question-of-cells 9 (λ i k. (i ≤ n t) × (k ≤ n t) × (n t + 1 < i + k)) (λ i k. Figures-right (movement (method t) i (k - 1)))
     ∷ []
 
 -- ---- The calls

@@ -1,4 +1,4 @@
--- The meaning of document 01, in its order. Read from the top; no file below holds a proof.
+-- The meaning of document 01, in its order, but that verdicts and tests come first; then the demands and the examples. Read from the top; no file below holds a proof.
 pub mod Limits
 pub mod Counting
 pub mod Verdicts
@@ -16,6 +16,7 @@ pub mod Demand1
 pub mod Demand2
 pub mod Demand3
 pub mod Theorem
+pub mod Consequences
 pub mod Examples
 pub mod OtherReadings
 pub mod CellAndRowExamples

@@ -17,7 +17,7 @@ pub record Question : Type 1 where
   pub asked-at : ℕ → ℕ → Type 0
   -- what is wanted there
   pub wants : ℕ → ℕ → Type 0
-  -- the number and the place that a no there is answered with
+  -- the number and the place that a no there is answered with; in the base a row has one number, and most have the cell itself as place
   pub number-at : ℕ → ℕ → ℕ
   pub place-at : ℕ → ℕ → Place
 
@@ -60,12 +60,12 @@ pub record DecidedBy (asked : List Question) (v : Verdict) : Type 0 where
 -- ---- Rows of a table
 
 -- of cells (i, k): the number, the cells, and what is wanted there
-abbrev pub question : ℕ → (ℕ → ℕ → Type 0) → (ℕ → ℕ → Type 0) → Question
-question number asked-at wants = record { asked-at = asked-at; wants = wants; number-at = λ i k. number; place-at = at }
+abbrev pub question-of-cells : ℕ → (ℕ → ℕ → Type 0) → (ℕ → ℕ → Type 0) → Question
+question-of-cells number asked-at wants = record { asked-at = asked-at; wants = wants; number-at = λ i k. number; place-at = at }
 
 -- of the whole call, at the place (0, 0)
 abbrev pub question-once : ℕ → Type 0 → Question
-question-once number wanted = question number (λ i k. (i ≡ 0) × (k ≡ 0)) (λ i k. wanted)
+question-once number wanted = question-of-cells number (λ i k. (i ≡ 0) × (k ≡ 0)) (λ i k. wanted)
 
 abbrev pub From-to : ℤ → ℤ → ℤ → Type 0
 From-to low high x = (low ≤ℤ x) × (x ≤ℤ high)

@@ -22,7 +22,7 @@ question-1 years = ask (years-in-range years) 1 nowhere
 unfoldable pub question-2 : ℤ → ℤ → Verdict
 question-2 years cut = ask (cut-in-range years cut) 2 nowhere
 
--- whether every list that the call lends has its length
+-- whether every list of the call has its length: `right` is the answer for the lists that this call lends
 unfoldable pub question-3 : Bool → Verdict
 question-3 right = ask right 3 nowhere
 
@@ -41,7 +41,8 @@ module _ (t : Triangle) where
 
   -- these and the two answer lists, of the given lengths
   unfoldable pub lengths-right : ℕ → ℕ → Bool
-  lengths-right future reserves = input-lengths-right && eqb future (future-length (n t)) && eqb reserves (reserves-length (n t))
+  lengths-right future-room reserves-room =
+      input-lengths-right && eqb future-room (future-length (n t)) && eqb reserves-room (reserves-length (n t))
 
   -- ---- Questions 4 to 9
 
@@ -71,18 +72,19 @@ module _ (t : Triangle) where
 
   -- ---- In the order in which they are asked
 
-  -- of the lists, each whole
+  -- 4 to 7, of the lists, each whole
   unfoldable pub list-questions : Verdict
   list-questions = question-4 then question-5 then question-6 then question-7
 
-  -- of all that is lent; a call for a single cell lends no answer lists, so question 3 is given its answer
+  -- 1 to 7, of all that is lent; a call for a single cell lends no answer lists, so question 3 is given its answer
   unfoldable pub input-questions : Bool → Verdict
   input-questions right = question-1 (t .years) then question-2 (t .years) (t .cut) then question-3 right then list-questions
 
-  -- all that is asked before a year is projected
+  -- 1 to 8, all that is asked before a year is projected
   unfoldable pub observed-questions : Bool → Verdict
   observed-questions right = input-questions right then question-8
 
+  -- 1 to 9
   unfoldable pub questions : Bool → Verdict
   questions right = observed-questions right then question-9
 

@@ -19,6 +19,16 @@ pub record Method : Type 0 where
   pub unrounded : ℕ → ℕ → Fraction → Year Fraction
   pub allowed : ℕ → ℕ → Fraction → Year Fraction
 
+-- The method of document 01 on a triangle: read `m .rounded i k r` below as `next-year r (sums t k)`, and so on.
+abbrev pub method : Triangle → Method
+method t = record {
+  years = n t;
+  observed = R t;
+  rounded = λ i k r. next-year r (sums t k);
+  unrounded = λ i k u. unrounded-year u (sums t k);
+  allowed = λ i k a. allowed-year a (sums t k);
+}
+
 module _ (m : Method) where
   -- An account of a row: it is read off the observed outstanding where cell (i, k) is seen, and else is the outstanding of the year made from the year before.
   unfoldable pub account : {X : Type 0} → (ℤ → X) → (ℕ → ℕ → X → Year X) → ℕ → ℕ → X
@@ -28,7 +38,7 @@ module _ (m : Method) where
     | false ↦ next i k (account first next i k) .outstanding
   ]
 
-  -- The outstanding of cell (i, k), observed or projected. Document 01 calls both R.
+  -- The outstanding of cell (i, k), observed or projected, in millionths. Document 01 calls both R.
   unfoldable pub O : ℕ → ℕ → ℤ
   O = account (λ r. r) (m .rounded)
 
@@ -101,13 +111,3 @@ module _ (m : Method) where
 
   unfoldable pub incurred-allowance : ℕ → Fraction
   incurred-allowance i = fractions-to (i - 1) (λ j. allowance i (year-before i j) .adjustment)
-
--- The method of document 01 on a triangle.
-abbrev pub method : Triangle → Method
-method t = record {
-  years = n t;
-  observed = R t;
-  rounded = λ i k r. next-year r (sums t k);
-  unrounded = λ i k u. unrounded-year u (sums t k);
-  allowed = λ i k a. allowed-year a (sums t k);
-}

@@ -4,6 +4,7 @@
 use mathlib.Core.Path.{_≡_}
 use Prim.Native.Nat.{ℕ, _+_, _-_, _≤_, _<_}
 use lib.IntN.{pos, _*ℤ_}
+use lib.Signed.{_<ℤ_}
 use Rattle.integers.specs.Fraction.{Fraction, _over_, _⊕_, _⊖_, _⊗_, _≈_}
 use Rattle.method.specs.Counting.{up-to, sum-to, fractions-to}
 use Rattle.method.specs.Verdicts.{accepted}
@@ -14,11 +15,11 @@ use Rattle.method.specs.Answers.{answer}
 use Rattle.method.specs.AnswerPlaces.{Projected, AccidentYear}
 
 -- The product and the sum of g l for l from first to last; 1 and 0 where last is before first.
-abbrev pub product : ℕ → ℕ → (ℕ → Fraction) → Fraction
-product first last g = up-to _⊗_ (pos 1 over pos 1) (last + 1 - first) (λ j. g (first + j - 1))
+abbrev pub product-from-to : ℕ → ℕ → (ℕ → Fraction) → Fraction
+product-from-to first last g = up-to _⊗_ (pos 1 over pos 1) (last + 1 - first) (λ j. g (first + j - 1))
 
-abbrev pub sum : ℕ → ℕ → (ℕ → Fraction) → Fraction
-sum first last g = fractions-to (last + 1 - first) (λ j. g (first + j - 1))
+abbrev pub sum-from-to : ℕ → ℕ → (ℕ → Fraction) → Fraction
+sum-from-to first last g = fractions-to (last + 1 - first) (λ j. g (first + j - 1))
 
 module _ (t : Triangle) where
   -- of development year k: (3.1), (3.2) and (3.3)
@@ -54,22 +55,31 @@ module _ (t : Triangle) where
     -- (3.3)
     pub factor-of-outstandings : (k : ℕ) → 1 ≤ k → k < n t
         → f k ≈ sum-to (n t - k) (λ i. w t i k *ℤ R t i (k + 1)) over sum-to (n t - k) (λ i. w t i k *ℤ R t i k)
-    -- (3.6)
-    pub payment : (i k : ℕ) → Unseen i k → projected-S i k ≈ α (k - 1) ⊗ last-R i ⊗ product (n t + 1 - i) (k - 2) f
-    -- (3.7)
-    pub adjustment : (i k : ℕ) → Unseen i k → projected-T i k ≈ β (k - 1) ⊗ last-R i ⊗ product (n t + 1 - i) (k - 2) f
+    -- (3.6), both of its equations
+    pub payment-of-outstanding : (i k : ℕ) → Unseen i k → projected-S i k ≈ α (k - 1) ⊗ projected-R i (k - 1)
+    pub payment : (i k : ℕ) → Unseen i k → projected-S i k ≈ α (k - 1) ⊗ last-R i ⊗ product-from-to (n t + 1 - i) (k - 2) f
+    -- (3.7), both of its equations
+    pub adjustment-of-outstanding : (i k : ℕ) → Unseen i k → projected-T i k ≈ β (k - 1) ⊗ projected-R i (k - 1)
+    pub adjustment : (i k : ℕ) → Unseen i k → projected-T i k ≈ β (k - 1) ⊗ last-R i ⊗ product-from-to (n t + 1 - i) (k - 2) f
     -- (3.8)
-    pub outstanding : (i k : ℕ) → Unseen i k → projected-R i k ≈ last-R i ⊗ product (n t + 1 - i) (k - 1) f
+    pub outstanding : (i k : ℕ) → Unseen i k → projected-R i k ≈ last-R i ⊗ product-from-to (n t + 1 - i) (k - 1) f
     -- (3.9), where there is no tail development
     pub no-gap : R t 1 (n t) ≡ pos 0 → (i : ℕ) → AccidentYear (n t) i
-        → sum (n t + 2 - i) (n t) (projected-S i) ≈ last-R i ⊕ sum (n t + 2 - i) (n t) (projected-T i)
+        → sum-from-to (n t + 2 - i) (n t) (projected-S i) ≈ last-R i ⊕ sum-from-to (n t + 2 - i) (n t) (projected-T i)
     -- the two sides of (3.9) are the unrounded reserves
-    pub paid-side : (i : ℕ) → AccidentYear (n t) i → unrounded-paid (method t) i ≡ sum (n t + 2 - i) (n t) (projected-S i)
-    pub incurred-side : (i : ℕ) → AccidentYear (n t) i → unrounded-incurred (method t) i ≡ last-R i ⊕ sum (n t + 2 - i) (n t) (projected-T i)
-    -- from the proof of (3.9): with a tail development too, incurred less paid reserve is projected-R(i, n)
+    pub paid-side : (i : ℕ) → AccidentYear (n t) i → unrounded-paid (method t) i ≡ sum-from-to (n t + 2 - i) (n t) (projected-S i)
+    pub incurred-side : (i : ℕ) → AccidentYear (n t) i → unrounded-incurred (method t) i ≡ last-R i ⊕ sum-from-to (n t + 2 - i) (n t) (projected-T i)
+    -- from the proof of (3.9): with a tail development too, incurred less paid reserve is R(i, n) as projected
     pub gap : (i : ℕ) → AccidentYear (n t) i → unrounded-incurred (method t) i ≈ unrounded-paid (method t) i ⊕ projected-R i (n t)
 
--- Over every accepted triangle. Proved as `theorem-3-2`.
+-- Wherever the ratios exist. Proved as `theorem-3-2`.
+abbrev pub RatiosExist : Triangle → Type 0
+RatiosExist t = (k : ℕ) → 1 ≤ k → k < n t → pos 0 <ℤ sums t k .D
+
+abbrev pub Theorem-3-2-wherever-ratios-exist : Type 0
+Theorem-3-2-wherever-ratios-exist = (t : Triangle) → RatiosExist t → Theorem-3-2 t
+
+-- They do in every accepted triangle. Proved as `theorem-3-2-accepted`.
 abbrev pub Theorem-3-2-of-every-accepted-triangle : Type 0
 Theorem-3-2-of-every-accepted-triangle =
     (t : Triangle) (future-room reserves-room : ℕ) → answer t future-room reserves-room .verdict ≡ accepted → Theorem-3-2 t

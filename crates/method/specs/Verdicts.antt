@@ -46,7 +46,7 @@ ask false question p = refused question p
 unfoldable pub first-to : ℕ → (ℕ → Verdict) → Verdict
 first-to = up-to _then_ accepted
 
--- a question with a test of each cell, in list order: m rows, row i of m + 1 − i cells
+-- a question with a test of each cell, in list order: of the m + 1 − i cells of row i, and of m such rows
 unfoldable pub each-in-row : ℕ → ℕ → (ℕ → ℕ → Bool) → ℕ → Verdict
 each-in-row m question test i = first-to (m + 1 - i) (λ k. ask (test i k) question (at i k))
 

@@ -17,7 +17,7 @@ use Rattle.cells.specs.Cells.{row-part}
 use Rattle.cells.proofs.CellTests.{part-entry}
 use Rattle.outstandings.specs.Observed.{row-outstanding, year-of-row, row-of-outstandings, outstandings-of-year, all-outstandings}
 use Rattle.outstandings.proofs.ObservedRows.{outstandings-of-row}
-use Rattle.questions.specs.Lent.{counted}
+use Rattle.questions.specs.Inputs.{counted}
 
 module _ (n cut : ℕ) (payments adjustments weights openings : List ℤ) (paid : length payments ≡ amounts-length n)
     (adjusted : length adjustments ≡ amounts-length n) where

@@ -9,7 +9,7 @@ ghost use Rattle.method.specs.Questions.{question-1, question-2, list-questions
 ghost use Rattle.verdicts.specs.Verdicts.{verdict-of};
 ghost use Rattle.cells.specs.Cells.{whole-list};
 ghost use Rattle.cells.specs.declared.CellTest.the-variants.{AmountRight};
-ghost use Rattle.questions.specs.Lent.{lent, counted, lists-right, ListsLent};
+ghost use Rattle.questions.specs.Inputs.{triangle-of, counted, lists-right, ListsMeasured};
 use cells::CellTest;
 use cells::first_refusal;
 use outstandings::question_6;
@@ -20,7 +20,7 @@ use verdicts::years::question_1;
 
 // The lengths of the answer lists of a call, where it lends them.
 pub enum AnswerLists {
-    NotLent,
+    NotGiven,
     // of the future list and of the reserve list
     OfLengths(usize, usize),
 }
@@ -36,8 +36,8 @@ pub fn input_questions<'a>(
     answers: AnswerLists,
 ) -> Verdict
     ensures { λ r. ⌜ verdict-of r ≡ input-questions
-        (lent years cut (now (payments .entry)) (now (adjustments .entry)) (now (weights .entry)) (now (openings .entry)))
-        (lists-right (lent years cut (now (payments .entry)) (now (adjustments .entry)) (now (weights .entry)) (now (openings .entry))) answers) ⌝ }
+        (triangle-of years cut (now (payments .entry)) (now (adjustments .entry)) (now (weights .entry)) (now (openings .entry)))
+        (lists-right (triangle-of years cut (now (payments .entry)) (now (adjustments .entry)) (now (weights .entry)) (now (openings .entry))) answers) ⌝ }
 {
     let first = question_1(years);
     let Verdict::Accepted = first else {
@@ -81,7 +81,7 @@ fn lists_right<'a>(
 {
     let inputs = input_lengths_right(n, cut, payments, adjustments, weights, openings);
     match answers {
-        AnswerLists::NotLent => inputs,
+        AnswerLists::NotGiven => inputs,
         AnswerLists::OfLengths(future, reserves) => inputs
             & (future == 3 * (n * (n - 1) / 2))
             & (reserves == 3 * n),
@@ -116,7 +116,7 @@ fn list_questions<'a>(
     weights: &'a [i64],
     openings: &'a [i64],
 ) -> Verdict
-    requires { ⌜ ListsLent n cut (now payments) (now adjustments) (now weights) (now openings) ⌝ }
+    requires { ⌜ ListsMeasured n cut (now payments) (now adjustments) (now weights) (now openings) ⌝ }
     ensures { λ r. ⌜ verdict-of r ≡ list-questions
         (counted n cut (now (payments .entry)) (now (adjustments .entry)) (now (weights .entry)) (now (openings .entry))) ⌝ }
 {

@@ -176,7 +176,7 @@ fn print_tables<'a>(
         adjustments,
         weights,
         openings,
-        AnswerLists::NotLent,
+        AnswerLists::NotGiven,
     );
     let development = reading.development;
     let n = count_of(asked.years);

@@ -10,7 +10,7 @@ use Rattle.method.specs.Verdicts.{Place, accepted, refused}
 use Rattle.method.specs.Answers.{Amounts, payments, adjustments, named-list, row-verdict, row-of, row}
 use Rattle.method.proofs.Positions.{cells-before-is, row-inside}
 use Rattle.method.proofs.Rows.{RowAccepted, row-accepted, named-length}
-use Rattle.rows.specs.Rows.{RowInside, LentList, named-of}
+use Rattle.rows.specs.Rows.{RowInside, ListInMemory, named-of}
 
 module _ (xs : List ℤ) (n i : ℕ) (h : RowInside xs n i) where
   -- the row's cells, and the place at which it begins
@@ -35,7 +35,7 @@ module _ (xs : List ℤ) (n i : ℕ) (h : RowInside xs n i) where
       ap₂ (λ (a b : ℕ). take a (drop b xs)) e (sym (from-end .0))
 
 -- what the list that is named holds
-pub named-holds : (payment-list adjustment-list : LentList) (named : Amounts)
+pub named-holds : (payment-list adjustment-list : ListInMemory) (named : Amounts)
     → named-of payment-list adjustment-list named .now ≡ named-list (payment-list .now) (adjustment-list .now) named
 unfolding named-list
 named-holds payment-list adjustment-list payments = refl

@@ -8,7 +8,7 @@ ghost use Rattle.method.specs.Triangle.{cells-before};
 ghost use Rattle.method.specs.Answers as meaning;
 ghost use Rattle.method.specs.Demand1.{Demand-1-of-row};
 ghost use Rattle.verdicts.specs.Verdicts.{verdict-of};
-ghost use Rattle.rows.specs.Rows.{amounts-of, RowInside, OwnPart, named-of, RowHandedBack};
+ghost use Rattle.rows.specs.Rows.{amounts-of, RowInside, OwnPart, named-of, RowReturned};
 use verdicts::limits::from_to;
 use verdicts::verdict::Verdict;
 use verdicts::verdict::asked;
@@ -28,7 +28,7 @@ pub fn row<'a>(
     named: AmountList,
     accident_year: i64,
 ) -> &'a [i64]
-    ensures { λ r. ⌜ RowHandedBack years (payments .entry) (adjustments .entry) «accident_year» (amounts-of named) r ⌝ }
+    ensures { λ r. ⌜ RowReturned years (payments .entry) (adjustments .entry) «accident_year» (amounts-of named) r ⌝ }
 {
     let list = named_list(payments, adjustments, named);
     let verdict = row_verdict(years, payments, adjustments, named, accident_year);

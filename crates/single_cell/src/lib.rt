@@ -1,4 +1,4 @@
-// One unseen cell alone, as a desk asks for it.
+// One unseen cell alone.
 ghost use mathlib.Core.Path.{_≡_};
 ghost use Prim.Native.Nat.{_<_};
 ghost use Rattle.method.specs.Verdicts.{accepted, first-to};
@@ -7,7 +7,7 @@ ghost use Rattle.method.specs.Answers.{single-cell};
 ghost use Rattle.method.specs.Demand1.{Demand-1-of-cell};
 ghost use Rattle.method.specs.Demand3.{CellOfFuture};
 ghost use Rattle.verdicts.specs.Verdicts.{verdict-of};
-ghost use Rattle.questions.specs.Lent.{lent};
+ghost use Rattle.questions.specs.Inputs.{triangle-of};
 ghost use Rattle.projection.specs.Year.{movement-of};
 ghost use Rattle.calls.specs.ProjectedRows.{Projectable, verdict-of-row};
 ghost use Rattle.single_cell.specs.Cells.{CellInput, outstanding-of, movement-of-year, CellAccepted, cell-movement};
@@ -47,13 +47,13 @@ pub fn single_cell<'a>(
     development_year: i64,
 ) -> Cell
     ensures whole { λ r. ⌜ cell-of r ≡ single-cell
-        (lent years cut (now (payments .entry)) (now (adjustments .entry)) (now (weights .entry)) (now (openings .entry)))
+        (triangle-of years cut (now (payments .entry)) (now (adjustments .entry)) (now (weights .entry)) (now (openings .entry)))
         «accident_year» «development_year» ⌝ }
     ensures demand_1 { λ r. ⌜ Demand-1-of-cell
-        (lent years cut (now (payments .entry)) (now (adjustments .entry)) (now (weights .entry)) (now (openings .entry)))
+        (triangle-of years cut (now (payments .entry)) (now (adjustments .entry)) (now (weights .entry)) (now (openings .entry)))
         «accident_year» «development_year» (cell-of r) ⌝ }
-    ensures same_as_future { λ r. ⌜ (verdict-of (r .verdict) ≡ accepted → CellOfFuture
-        (lent years cut (now (payments .entry)) (now (adjustments .entry)) (now (weights .entry)) (now (openings .entry)))
+    ensures of_future { λ r. ⌜ (verdict-of (r .verdict) ≡ accepted → CellOfFuture
+        (triangle-of years cut (now (payments .entry)) (now (adjustments .entry)) (now (weights .entry)) (now (openings .entry)))
         «accident_year» «development_year» (cell-of r)) ⌝ }
 {
     let reading = read(
@@ -63,7 +63,7 @@ pub fn single_cell<'a>(
         adjustments,
         weights,
         openings,
-        AnswerLists::NotLent,
+        AnswerLists::NotGiven,
     );
     let observed = reading.verdict;
     let Verdict::Accepted = observed else {

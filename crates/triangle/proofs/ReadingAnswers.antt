@@ -12,7 +12,7 @@ use Rattle.method.proofs.QuestionFacts.{Observed, observed-triangle}
 use Rattle.verdicts.specs.declared.verdict.Verdict as code
 use Rattle.verdicts.specs.Verdicts.{verdict-of}
 use Rattle.questions.specs.declared.inputs.AnswerLists.{AnswerLists}
-use Rattle.questions.specs.Lent.{lent, counted, lists-right}
+use Rattle.questions.specs.Inputs.{triangle-of, counted, lists-right}
 use Rattle.triangle.specs.declared.ratios.Development.{Development}
 use Rattle.triangle.specs.Ratios.{DevelopmentOf, Readable, DevelopmentRead}
 use Rattle.triangle.specs.Reading.{no-development, development, ReadingOf}
@@ -31,7 +31,7 @@ module _ (t : Triangle) (answers : AnswerLists) (v : code.Verdict) (e : verdict-
 -- a triangle that passed questions 1 to 7
 module _ (years cut : ℤ) (payments adjustments weights openings : List ℤ) (answers : AnswerLists) where
   abbrev t : Triangle
-  t = lent years cut payments adjustments weights openings
+  t = triangle-of years cut payments adjustments weights openings
 
   module _ (e : input-questions t (lists-right t answers) ≡ accepted) where
     pub observed : Observed t

@@ -15,7 +15,7 @@ use Rattle.method.specs.Verdicts.{Verdict, accepted, refused, at, ask, first-to
 use Rattle.method.specs.Questions.{observed-questions}
 use Rattle.verdicts.specs.Verdicts.{verdict-of}
 use Rattle.questions.specs.declared.inputs.AnswerLists.{AnswerLists}
-use Rattle.questions.specs.Lent.{lists-right}
+use Rattle.questions.specs.Inputs.{lists-right}
 use Rattle.triangle.specs.declared.ratios.Development.{Development}
 use Rattle.triangle.specs.declared.ratios.Sums.{Sums}
 use Rattle.triangle.specs.declared.reading.Reading.{Reading}

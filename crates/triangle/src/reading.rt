@@ -3,7 +3,7 @@ ghost use mathlib.Core.Path.{_≡_};
 ghost use Prim.Native.Nat.{_≤_};
 ghost use Rattle.method.specs.Limits.{most-accident-years};
 ghost use Rattle.verdicts.specs.Verdicts.{verdict-of};
-ghost use Rattle.questions.specs.Lent.{lent};
+ghost use Rattle.questions.specs.Inputs.{triangle-of};
 ghost use Rattle.triangle.specs.Reading.{no-development, exposures, ReadingOf};
 use crate::ratios::Development;
 use crate::ratios::NO_SUMS;
@@ -34,7 +34,7 @@ pub fn read<'a>(
     answers: AnswerLists,
 ) -> Reading
     ensures { λ r. ⌜ ReadingOf
-        (lent years cut (now (payments .entry)) (now (adjustments .entry)) (now (weights .entry)) (now (openings .entry))) answers r ⌝ }
+        (triangle-of years cut (now (payments .entry)) (now (adjustments .entry)) (now (weights .entry)) (now (openings .entry))) answers r ⌝ }
 {
     let inputs = input_questions(
         years,

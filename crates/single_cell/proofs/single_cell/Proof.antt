@@ -12,8 +12,8 @@ use Rattle.method.proofs.FirstRefusal.{ask-accepted, stopped, went-on}
 use Rattle.method.proofs.QuestionFacts.{YearsInRange, UnseenCell, unseen-cell}
 use Rattle.verdicts.specs.Verdicts.{verdict-of}
 use Rattle.verdicts.proofs.Counts.{count-fits}
-use Rattle.questions.specs.declared.inputs.AnswerLists.the-variants.{NotLent}
-use Rattle.questions.specs.Lent.{lent}
+use Rattle.questions.specs.declared.inputs.AnswerLists.the-variants.{NotGiven}
+use Rattle.questions.specs.Inputs.{triangle-of}
 use Rattle.triangle.specs.Reading.{ReadingOf}
 use Rattle.calls.proofs.OfTriangle.{question-9-is}
 use Rattle.calls.proofs.ReadTriangles.{observed, was-read, can-be-projected, with-question-9, question-1-passed}
@@ -24,9 +24,9 @@ use Rattle.single_cell.proofs.single_cell.Tie as tie
 
 -- the triangle that is lent
 abbrev triangle : tie.Start → Triangle
-triangle s = lent (s .args .years) (s .args .cut) (s .args .payments .now) (s .args .adjustments .now) (s .args .weights .now) (s .args .openings .now)
+triangle s = triangle-of (s .args .years) (s .args .cut) (s .args .payments .now) (s .args .adjustments .now) (s .args .weights .now) (s .args .openings .now)
 
-reading : (c : tie.After-read) → ReadingOf (triangle (c .before)) NotLent (c .read .result)
+reading : (c : tie.After-read) → ReadingOf (triangle (c .before)) NotGiven (c .read .result)
 reading c = simp (toZ-ofZ (c .before .fits .years), toZ-ofZ (c .before .fits .cut)) at (c .read .ensures)
 
 -- where questions 1 to 8 have accepted

@@ -8,7 +8,7 @@ use Rattle.method.specs.Verdicts.{accepted}
 use Rattle.verdicts.specs.Verdicts.{verdict-of}
 use Rattle.verdicts.proofs.Counts.{count-fits}
 use Rattle.questions.specs.declared.inputs.AnswerLists.the-variants.{OfLengths}
-use Rattle.questions.specs.Lent.{lent}
+use Rattle.questions.specs.Inputs.{triangle-of}
 use Rattle.triangle.specs.Reading.{ReadingOf}
 use Rattle.calls.proofs.ReadTriangles.{observed, can-be-projected, lists-whole}
 use Rattle.calls.proofs.BothLists.{refused-before, projected}
@@ -17,7 +17,7 @@ use Rattle.calls.proofs.reserve.fill.Tie as tie
 
 -- the triangle that is lent
 abbrev triangle : tie.Start → Triangle
-triangle s = lent (s .args .years) (s .args .cut) (s .args .payments .now) (s .args .adjustments .now) (s .args .weights .now) (s .args .openings .now)
+triangle s = triangle-of (s .args .years) (s .args .cut) (s .args .payments .now) (s .args .adjustments .now) (s .args .weights .now) (s .args .openings .now)
 
 reading : (c : tie.After-read) → let s = c .before in
     ReadingOf (triangle s) (OfLengths (length (s .args .future .now)) (length (s .args .reserves .now))) (c .read .result)

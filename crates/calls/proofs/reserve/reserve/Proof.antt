@@ -6,7 +6,7 @@ use lib.IntN.{pos}
 use lib.ListN.{replicate}
 use mir.Facts.{toZ-ofZ}
 use Rattle.verdicts.specs.Verdicts.{verdict-of}
-use Rattle.questions.specs.Lent.{lent}
+use Rattle.questions.specs.Inputs.{triangle-of}
 use Rattle.calls.specs.Answers.{Filled}
 use Rattle.calls.proofs.BothLists.{refused-whole, accepted-whole, with-demands}
 use Rattle.calls.proofs.reserve.reserve.Statement.{statement}
@@ -16,7 +16,7 @@ abbrev start : tie.After-fill → tie.Start
 start c = c .before .before .before
 
 filled : (c : tie.After-fill) → let a = start c .args in
-    Filled (lent (a .years) (a .cut) (a .payments .now) (a .adjustments .now) (a .weights .now) (a .openings .now)) (a .future .now) (a .reserves .now)
+    Filled (triangle-of (a .years) (a .cut) (a .payments .now) (a .adjustments .now) (a .weights .now) (a .openings .now)) (a .future .now) (a .reserves .now)
     (verdict-of (c .fill .result)) (c .fill .last .1 .1 .1 .1 .1 .1 .0) (c .fill .last .1 .1 .1 .1 .1 .1 .1 .0)
 filled c = simp (toZ-ofZ (start c .fits .years), toZ-ofZ (start c .fits .cut)) at (c .fill .ensures)
 

@@ -12,14 +12,14 @@ use Rattle.method.proofs.FirstRefusal.{ask-accepted, stopped, went-on}
 use Rattle.method.proofs.QuestionFacts.{YearsInRange, CutInRange, years-accepted, cut-accepted}
 use Rattle.verdicts.specs.Verdicts.{verdict-of}
 use Rattle.verdicts.proofs.Counts.{count-fits}
-use Rattle.questions.specs.Lent.{lent, counted, lists-right}
-use Rattle.questions.proofs.Counted.{counted-is, lists-lent}
+use Rattle.questions.specs.Inputs.{triangle-of, counted, lists-right}
+use Rattle.questions.proofs.Counted.{counted-is, lists-measured}
 use Rattle.questions.proofs.inputs.input_questions.Statement.{statement}
 use Rattle.questions.proofs.inputs.input_questions.Tie as tie
 
 -- the triangle that is asked
 abbrev triangle : tie.Start → Triangle
-triangle s = lent (s .args .years) (s .args .cut) (s .args .payments .now) (s .args .adjustments .now) (s .args .weights .now) (s .args .openings .now)
+triangle s = triangle-of (s .args .years) (s .args .cut) (s .args .payments .now) (s .args .adjustments .now) (s .args .weights .now) (s .args .openings .now)
 
 -- where the code began, and the states in which an earlier question had accepted, seen from one in which question 1, 2 or 3 has
 abbrev began₁ : tie.After-enum-told → tie.Start
@@ -147,7 +147,7 @@ list-questions-requires c κs =
     let s = began₃ c in
     let before = accepted₂ c in
     simp (toZ-ofZ (s .fits .years), toZ-ofZ (s .fits .cut))
-    (lists-lent (s .args .years) (s .args .cut) _ _ _ _ (years before) (cut before) (s .args .answers) (sym (right (c .before .before .before)) ∙ said-yes c))
+    (lists-measured (s .args .years) (s .args .cut) _ _ _ _ (years before) (cut before) (s .args .answers) (sym (right (c .before .before .before)) ∙ said-yes c))
 
 returns-4 : tie.Need-returns-4
 unfolding input-questions

@@ -9,7 +9,7 @@ use Rattle.method.proofs.FirstRefusal.{stopped, went-on, then-accepted}
 use Rattle.method.proofs.Positions.{weights-length-is}
 use Rattle.verdicts.specs.Verdicts.{verdict-of}
 use Rattle.cells.proofs.CellTests.{question-4-is, question-5-is, question-7-is}
-use Rattle.questions.specs.Lent.{counted}
+use Rattle.questions.specs.Inputs.{counted}
 use Rattle.questions.proofs.ObservedOutstandings.{question-6-is}
 use Rattle.questions.proofs.inputs.list_questions.Statement.{statement}
 use Rattle.questions.proofs.inputs.list_questions.Tie as tie

@@ -6,7 +6,7 @@ use Prim.Native.Nat.{ℕ, _-_}
 use native.Mathlib.Omega.{arith}
 use Rattle.method.specs.Triangle.{Triangle}
 use Rattle.method.proofs.QuestionFacts.{Observed, observed-triangle, says-input-lengths}
-use Rattle.questions.specs.Lent.{counted}
+use Rattle.questions.specs.Inputs.{counted}
 use Rattle.triangle.proofs.AllRatios.{first-year, year-input, YearsMade, no-year-made, one-more-year, all-years-made}
 use Rattle.triangle.proofs.ratios.development_of.Statement.{statement}
 use Rattle.triangle.proofs.ratios.development_of.Tie as tie

@@ -9,7 +9,7 @@ use Rattle.method.proofs.FirstRefusal.{stopped, went-on}
 use Rattle.method.proofs.QuestionFacts.{Observed}
 use Rattle.verdicts.specs.Verdicts.{verdict-of}
 use Rattle.verdicts.proofs.Counts.{count-fits}
-use Rattle.questions.specs.Lent.{lent, lists-right}
+use Rattle.questions.specs.Inputs.{triangle-of, lists-right}
 use Rattle.triangle.specs.Ratios.{DevelopmentOf}
 use Rattle.triangle.proofs.Exposures.{question-8-is}
 use Rattle.triangle.proofs.ReadingAnswers.{refused-reading, accepted-reading, observed, readable, development-is}
@@ -18,7 +18,7 @@ use Rattle.triangle.proofs.reading.read.Tie as tie
 
 -- the triangle that is read
 abbrev triangle : tie.Start → Triangle
-triangle s = lent (s .args .years) (s .args .cut) (s .args .payments .now) (s .args .adjustments .now) (s .args .weights .now) (s .args .openings .now)
+triangle s = triangle-of (s .args .years) (s .args .cut) (s .args .payments .now) (s .args .adjustments .now) (s .args .weights .now) (s .args .openings .now)
 
 -- where the code began, seen from the state in which questions 1 to 7 have accepted
 abbrev began : tie.After-enum-told → tie.Start

@@ -1,4 +1,4 @@
--- A triangle as a call lends it.
+-- The arguments of a call as a triangle.
 use mathlib.Core.Path.{_≡_}
 use mathlib.Core.Bool.{Bool}
 use mathlib.Core.List.{List}
@@ -9,10 +9,10 @@ use Rattle.method.specs.Limits.{most-accident-years}
 use Rattle.method.specs.Triangle.{Triangle, amounts-length, weights-length, openings-length}
 use Rattle.method.specs.Questions.{input-lengths-right, lengths-right}
 use Rattle.questions.specs.declared.inputs.AnswerLists.{AnswerLists}
-use Rattle.questions.specs.declared.inputs.AnswerLists.the-variants.{NotLent, OfLengths}
+use Rattle.questions.specs.declared.inputs.AnswerLists.the-variants.{NotGiven, OfLengths}
 
-abbrev pub lent : ℤ → ℤ → List ℤ → List ℤ → List ℤ → List ℤ → Triangle
-lent years cut payments adjustments weights openings = record {
+abbrev pub triangle-of : ℤ → ℤ → List ℤ → List ℤ → List ℤ → List ℤ → Triangle
+triangle-of years cut payments adjustments weights openings = record {
   years = years;
   cut = cut;
   payments = payments;
@@ -23,15 +23,15 @@ lent years cut payments adjustments weights openings = record {
 
 -- with n and Y that questions 1 and 2 have accepted, as counts
 abbrev pub counted : ℕ → ℕ → List ℤ → List ℤ → List ℤ → List ℤ → Triangle
-counted n cut = lent (pos n) (pos cut)
+counted n cut = triangle-of (pos n) (pos cut)
 
 -- the answer to question 3
 abbrev pub lists-right : Triangle → AnswerLists → Bool
-lists-right t NotLent = input-lengths-right t
+lists-right t NotGiven = input-lengths-right t
 lists-right t (OfLengths future reserves) = lengths-right t future reserves
 
 -- what questions 1 to 3 leave
-pub record ListsLent (n cut : ℕ) (payments adjustments weights openings : List ℤ) : Type 0 where
+pub record ListsMeasured (n cut : ℕ) (payments adjustments weights openings : List ℤ) : Type 0 where
   pub fewest : 2 ≤ n
   pub most : n ≤ most-accident-years
   pub cut-least : 1 ≤ cut
