@@ -19,7 +19,7 @@ pub record Method : Type 0 where
   pub unrounded : ℕ → ℕ → Fraction → Year Fraction
   pub allowed : ℕ → ℕ → Fraction → Year Fraction
 
--- The method of document 01 on a triangle: read `m .rounded i k r` below as `next-year r (sums t k)`, and so on.
+-- The method of document 01 on a triangle: a year is made by the sums of the development year before it.
 abbrev pub method : Triangle → Method
 method t = record {
   years = n t;
