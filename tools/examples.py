@@ -1,6 +1,6 @@
 #!/usr/bin/env python3
-"""Prints the number, the place, both answer lists and the reserve list's allowances of each example in
-crates/method/specs/Examples.antt and OtherReadings.antt.
+"""Prints the number, the place, both answer lists, the unrounded reserves and the reserve list's allowances of each
+example in crates/method/specs/Examples.antt and OtherReadings.antt.
 
 This is where the figures that document 01 does not print come from. Nothing in the gate runs it.
 """
@@ -16,7 +16,9 @@ def example(name, n, payments, adjustments, weights=None, y=1, openings=(), futu
     if lists:
         print("  future  ", *lists[0])
         print("  reserves", *lists[1])
-        print("  allowed ", *unrounded(n, y, payments, adjustments, weights, list(openings))[1][1])
+        exact, allowed = unrounded(n, y, payments, adjustments, weights, list(openings))
+        print("  exact   ", *exact[1])
+        print("  allowed ", *allowed[1])
 
 
 def changed(values, at, value):
@@ -84,3 +86,35 @@ example("X49: a negative payment too large", 2, [0, -909_090_910, 0], [1, -909_0
 example("X50: a negative adjustment too large", 2, [0, -909_090_909, 0], [1, -909_090_910, 11])
 example("X51: negative years", -3, S4, T4, [1, 1, 1], 1, [], 9, 9)
 example("X52: a negative cut", 2, S1, T1, None, -1)
+example("X53: weights of 2, 1 and 3", 3, S4, T4, [2, 1, 3])
+example("X54: the same with a negative payment", 3, changed(S4, 2, -40), T4, [2, 1, 3])
+example("X55: halves of endless ratios", 2, [0, -1, 0], [384, 5, 3])
+example("X56: products past 64 bits", 2, [0, 400_000_000, 0], [10**9, -500_000_000, 10**9])
+example("X57: an adjustment one millionth above the limit", 2, [0, 97_428_513, 0], [1_000_000, 98_428_513, 101_596_577])
+example("X58: an outstanding one millionth above the limit", 2, [0, 0, 0], [1_000_000, 97_428_513, 101_596_577])
+example("X59: a payment one millionth below the least", 2, [0, -98_428_513, 0], [1_000_000, -97_428_513, 101_596_577])
+example("X60: question 9 in a second year", 3, [0] * 6, [1, 0, 999_999_999, 1, 0, 11])
+example("X61: question 9 year by year", 3, [0, 0, 2, 0, 0, 0], [1, 0, 1, 1, 999_999_999, 20])
+example("X62: a payment too few", 2, [100, 60], T1)
+example("X63: a payment too many", 2, S1 + [0], T1)
+example("X64: an adjustment too few", 2, S1, [200, -40])
+example("X65: an adjustment too many", 2, S1, T1 + [0])
+example("X66: a weight too many", 3, S4, T4, [1, 1, 1, 1])
+example("X67: an opening too few", 3, S7, T7, [0, 1, 1], 2)
+example("X68: the future list one too long", 2, S1, T1, None, 1, [], 4, 6)
+example("X69: the reserve list one short", 2, S1, T1, None, 1, [], 3, 5)
+example("X70: weights row by row", 3, S4, T4, [1, 101, -1])
+example("X71: adjustments row by row", 3, S4, changed(changed(T4, 1, 10**9 + 1), 3, -10**9 - 1))
+example("X72: an adjustment one below the least, in the last row", 3, S4, changed(T4, 5, -10**9 - 1))
+example("X73: a missing payment below 0", 4, changed(ZEROS, 1, -7), ZEROS, W4, 3, [50, 60])
+example("X74: a missing adjustment", 4, ZEROS, changed(ZEROS, 4, 7), W4, 3, [50, 60])
+example("X75: the outstanding of the youngest year", 3, S4, changed(T4, 5, 49))
+example("X76: an opening of 0", 3, S7, changed(T7, 1, 160), [0, 1, 1], 2, [0])
+example("X77: an outstanding of 0 before the last year", 3, S4, changed(changed(T4, 0, 100), 1, 160), [0, 1, 1])
+example("X78: a weight in a later missing row", 4, ZEROS, ZEROS, [0, 0, 1, 1, 1, 1], 3, [50, 60])
+example("X79: missing weights row by row", 4, ZEROS, ZEROS, [0, 1, 1, 1, 1, 1], 3, [50, 60])
+example("X80: no exposure in any year", 3, S4, T4, [0, 0, 0])
+example("X81: reserves and outstandings from rounded movements", 3, [0, 1, 2, 0, 0, 0], [3, -1, 2, 0, 0, 1])
+example("X82: no exposure in a middle year", 4, ZEROS, [10, 0, 0, 0, 10, 0, 0, 10, 0, 10], [1, 0, 1, 1, 0, 1])
+example("X83: question 9 in a middle year", 4, changed(ZEROS, 3, 500_000_000), [1, 0, 999_999_999, -500_000_000, 0, 0, 0, 0, 0, 11])
+example("X84: question 9 in a middle row", 4, changed(ZEROS, 3, 500_000_000), [1, 0, 999_999_999, -500_000_000, 0, 0, 0, 11, 0, 0])

@@ -8,13 +8,13 @@ use Rattle.method.specs.Counting.{up-to}
 use Rattle.method.specs.Triangle.{Triangle, cells-before, cell, entry}
 use Rattle.method.specs.Outstandings.{R, sums}
 use Rattle.method.specs.ProjectedYear.{figures, share, next-year, unrounded-year, allowed-year}
-use Rattle.method.specs.RunOff.{account, O, U, A, movement, unrounded-movement, allowance, future-row, future, paid-reserve, incurred-reserve, closing, reserves-row, reserves, paid-allowance, incurred-allowance, method}
+use Rattle.method.specs.RunOff.{account, O, U, A, movement, unrounded-movement, allowance, future-row, future, paid-reserve, incurred-reserve, closing, reserves-row, reserves, unrounded-paid, unrounded-incurred, paid-allowance, incurred-allowance, method}
 use Rattle.method.specs.Verdicts.{number, place, _then_, ask, first-to, each-in-row, each-cell}
 use Rattle.method.specs.Tests.{years-in-range, cut-in-range, weight-in-range, zero-where-missing, amount-right, known, outstanding-in-range, weight-allowed, figure-in-range}
 use Rattle.method.specs.Questions.{figures-in-range, input-lengths-right, lengths-right, question-1, question-2, question-3, question-4, question-5, question-6, question-7, question-8, question-9-of-year, question-9, list-questions, input-questions, observed-questions, questions, cell-unseen, accident-year-in-range, question-10}
 use Rattle.method.specs.Answers.{Answer, filled, answer, cell-verdict, cell-figures, single-cell, both-lengths-right, row-verdict, named-list, row-of, row}
 use Rattle.method.specs.Examples.{Hold, E1-to-E12, E2-uses-its-allowances, E5-allowances}
-use Rattle.method.specs.OtherReadings.{X13-to-X52}
+use Rattle.method.specs.OtherReadings.{X13-to-X84, X54-unrounded, X54-allowances}
 use Rattle.method.specs.CellAndRowExamples.{Cells-hold, cell-examples, Rows-hold, row-examples}
 
 -- the answer, with every definition on the way open
@@ -24,16 +24,16 @@ computed t future-room reserves-room = answer t future-room reserves-room
 
 -- the same for an allowance and an unrounded outstanding
 allowed : Triangle → ℕ → ℕ → Fraction
-unfolding computed unrounded-year allowed-year U A unrounded-movement allowance paid-allowance incurred-allowance _⊕_ _⊖_ _⊗_
+unfolding computed unrounded-year allowed-year U A unrounded-movement allowance unrounded-paid unrounded-incurred paid-allowance incurred-allowance _⊕_ _⊖_ _⊗_
 allowed t i k = A (method t) i k
 
 pub E1-to-E12-hold : Hold E1-to-E12
 unfolding computed
 E1-to-E12-hold = refl
 
-pub X13-to-X52-hold : Hold X13-to-X52
+pub X13-to-X84-hold : Hold X13-to-X84
 unfolding computed
-X13-to-X52-hold = refl
+X13-to-X84-hold = refl
 
 pub E2-uses-them : E2-uses-its-allowances
 unfolding allowed
@@ -42,6 +42,22 @@ E2-uses-them = (refl, refl)
 pub E5-allowances-hold : E5-allowances
 unfolding allowed
 E5-allowances-hold = (
+  record { left-positive = ltZ-yes tt; right-positive = ltZ-yes tt; across = refl },
+  record { left-positive = ltZ-yes tt; right-positive = ltZ-yes tt; across = refl },
+  record { left-positive = ltZ-yes tt; right-positive = ltZ-yes tt; across = refl },
+)
+
+pub X54-unrounded-holds : X54-unrounded
+unfolding allowed
+X54-unrounded-holds = (
+  record { left-positive = ltZ-yes tt; right-positive = ltZ-yes tt; across = refl },
+  record { left-positive = ltZ-yes tt; right-positive = ltZ-yes tt; across = refl },
+  record { left-positive = ltZ-yes tt; right-positive = ltZ-yes tt; across = refl },
+)
+
+pub X54-allowances-hold : X54-allowances
+unfolding allowed
+X54-allowances-hold = (
   record { left-positive = ltZ-yes tt; right-positive = ltZ-yes tt; across = refl },
   record { left-positive = ltZ-yes tt; right-positive = ltZ-yes tt; across = refl },
   record { left-positive = ltZ-yes tt; right-positive = ltZ-yes tt; across = refl },

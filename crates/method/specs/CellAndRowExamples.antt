@@ -6,8 +6,8 @@ use lib.IntN.{ℤ, pos}
 use Rattle.method.specs.Triangle.{Triangle}
 use Rattle.method.specs.Verdicts.{Verdict, number, place}
 use Rattle.method.specs.Answers.{CellAnswer, single-cell, Amounts, payments, adjustments, row-verdict, row}
-use Rattle.method.specs.Examples.{minus, Refusal, refused-by, payments-1, adjustments-1, payments-4, adjustments-4, E4, E8}
-use Rattle.method.specs.OtherReadings.{least-64-bit, late-refusal}
+use Rattle.method.specs.Examples.{minus, complete, Refusal, refused-by, payments-1, adjustments-1, payments-4, adjustments-4, E4, E8}
+use Rattle.method.specs.OtherReadings.{too-large, least-64-bit, late-refusal}
 
 -- ---- Single cells
 
@@ -64,6 +64,8 @@ cell-examples =
     -- year 3 of E4, as document 01 prints it
     cell-of triangle-4 (pos 3) (pos 2) (pos 60_000_000) (minus 4_000_000) (pos 136_000_000)
     ∷ cell-of triangle-4 (pos 3) (pos 3) (pos 54_400_000) (minus 81_600_000) (pos 0)
+    -- the one unseen cell of accident year 2, the least that has one
+    ∷ cell-of triangle-4 (pos 2) (pos 3) (pos 96_000_000) (minus 144_000_000) (pos 0)
     -- a seen cell, accident year 1, an accident year and a development year above n
     ∷ no-cell-of triangle-4 (pos 2) (pos 2) (refused-by 10 0 0)
     ∷ no-cell-of triangle-4 (pos 1) (pos 4) (refused-by 10 0 0)
@@ -73,9 +75,11 @@ cell-examples =
     ∷ no-cell-of triangle-4 (minus 3) (pos 2) (refused-by 10 0 0)
     ∷ no-cell-of triangle-4 (pos 3) (minus 2) (refused-by 10 0 0)
     ∷ no-cell-of triangle-4 least-64-bit least-64-bit (refused-by 10 0 0)
-    -- the triangle's own questions come first: E8, and a 9 in another row
+    -- the triangle's own questions come first: a list of a wrong length, E8, and a 9 in another row, also where question 10 fails too
+    ∷ no-cell-of (complete 3 payments-1 adjustments-4) (pos 3) (pos 2) (refused-by 3 0 0)
     ∷ no-cell-of (E8 .triangle) (pos 9) (pos 9) (refused-by 8 0 1)
     ∷ no-cell-of late-refusal (pos 2) (pos 3) (refused-by 9 3 2)
+    ∷ no-cell-of late-refusal (pos 9) (pos 9) (refused-by 9 3 2)
     ∷ []
 
 abbrev pub Cells-hold : List CellExample → Type 0
@@ -110,27 +114,28 @@ pub record RowExample : Type 0 where
   pub accident-year : ℤ
   pub wanted : RowOutcome
 
--- on the lists of E4: the number, and the row
-abbrev pub row-4 : Amounts → ℤ → ℕ → List ℤ → RowExample
-row-4 named i number row = record {
-  years = pos 3;
-  payment-list = payments-4;
-  adjustment-list = adjustments-4;
+-- n, both lists, the list that is named, the accident year, the number, and the row
+abbrev pub row-of-lists : ℤ → List ℤ → List ℤ → Amounts → ℤ → ℕ → List ℤ → RowExample
+row-of-lists n s t named i number row = record {
+  years = n;
+  payment-list = s;
+  adjustment-list = t;
   named = named;
   accident-year = i;
   wanted = record { number = number; accident-year = pos 0; development-year = pos 0; row = row };
 }
 
+-- on the lists of E4
+abbrev pub row-4 : Amounts → ℤ → ℕ → List ℤ → RowExample
+row-4 = row-of-lists (pos 3) payments-4 adjustments-4
+
 -- n, both lists, the accident year, and the number by which it is refused
 abbrev pub no-row : ℤ → List ℤ → List ℤ → ℤ → ℕ → RowExample
-no-row n s t i number = record {
-  years = n;
-  payment-list = s;
-  adjustment-list = t;
-  named = payments;
-  accident-year = i;
-  wanted = record { number = number; accident-year = pos 0; development-year = pos 0; row = [] };
-}
+no-row n s t i number = row-of-lists n s t payments i number []
+
+-- two years of amounts that question 5 would refuse
+abbrev pub large-amounts : List ℤ
+large-amounts = too-large ∷ least-64-bit ∷ pos 7 ∷ []
 
 abbrev pub row-examples : List RowExample
 row-examples =
@@ -142,10 +147,20 @@ row-examples =
     ∷ row-4 adjustments (pos 4) 10 []
     ∷ row-4 payments (minus 2) 10 []
     ∷ row-4 payments least-64-bit 10 []
+    -- only questions 1, 3 and 10 are asked: no amount is refused, in either list
+    ∷ row-of-lists (pos 2) large-amounts large-amounts payments (pos 1) 0 (too-large ∷ least-64-bit ∷ [])
     -- the list that is not named has the wrong length; question 3 comes before 10, and 1 before 3
     ∷ no-row (pos 3) payments-4 adjustments-1 (pos 1) 3
     ∷ no-row (pos 3) payments-1 adjustments-4 (pos 9) 3
     ∷ no-row (pos 33) payments-4 adjustments-4 (pos 1) 1
+    -- either list too long, and both of one wrong length
+    ∷ no-row (pos 2) payments-4 adjustments-1 (pos 1) 3
+    ∷ no-row (pos 2) payments-1 adjustments-4 (pos 1) 3
+    ∷ no-row (pos 3) payments-1 adjustments-1 (pos 1) 3
+    -- n from 2 to 32, not taken for its size: the most years pass question 1
+    ∷ no-row (pos 1) (pos 5 ∷ []) (pos 5 ∷ []) (pos 1) 1
+    ∷ no-row (minus 3) payments-4 adjustments-4 (pos 1) 1
+    ∷ no-row (pos 32) [] [] (pos 1) 3
     ∷ []
 
 abbrev pub Rows-hold : List RowExample → Type 0

@@ -1,9 +1,12 @@
--- Inputs on which other readings of document 01 would differ, as a second table after E1 to E12; tools/examples.py works them too.
+-- Inputs on which other readings of document 01 would differ, as a second table after E1 to E12, and unrounded reserves and allowances of one of them.
+-- tools/examples.py works them too.
 use mathlib.Core.List.{List, [], _∷_}
 use lib.IntN.{ℤ, pos, negℤ}
 use lib.ListN.{replicate, set}
+use Rattle.integers.specs.Fraction.{_over_, _≈_}
 use Rattle.method.specs.Triangle.{Triangle}
-use Rattle.method.specs.Examples.{Example, minus, triangle, complete, _gives_and_, refused-by, with-lengths, _is_, payments-1, adjustments-1, payments-4, adjustments-4, payments-7, adjustments-7}
+use Rattle.method.specs.RunOff.{U, A, unrounded-paid, unrounded-incurred, paid-allowance, incurred-allowance, method}
+use Rattle.method.specs.Examples.{Example, minus, triangle, complete, _gives_and_, refused-by, with-lengths, _is_, payments-1, adjustments-1, payments-4, adjustments-4, future-6, reserves-6, payments-7, adjustments-7}
 
 abbrev pub too-large : ℤ
 too-large = pos 1_000_000_001
@@ -135,9 +138,13 @@ X35 = complete 2 (minus 1 ∷ pos 0 ∷ pos 0 ∷ []) (pos 1_000_000_000 ∷ pos
 abbrev pub X36 : Example
 X36 = cut-3 nothing nothing (pos 1_000_000_000 ∷ too-large ∷ []) is refused-by 6 2 1
 
--- A payment one millionth above the limit of question 9: 101,596,577 units × 98,428,513 / 1,000,000.
+-- D = 1,000,000 and R = 101,596,577 units, so the next year's figures in millionths are 101,596,577 times S(1, 2) and T(1, 2).
+abbrev pub many-times : ℤ → ℤ → Triangle
+many-times payment adjustment = complete 2 (pos 0 ∷ payment ∷ pos 0 ∷ []) (pos 1_000_000 ∷ adjustment ∷ pos 101_596_577 ∷ [])
+
+-- A payment one millionth above the limit of question 9: 101,596,577 × 98,428,513.
 abbrev pub X37 : Example
-X37 = complete 2 (pos 0 ∷ pos 98_428_513 ∷ pos 0 ∷ []) (pos 1_000_000 ∷ pos 97_428_513 ∷ pos 101_596_577 ∷ []) is refused-by 9 2 2
+X37 = many-times (pos 98_428_513) (pos 97_428_513) is refused-by 9 2 2
 
 -- Questions 4 and 5 both fail, and 4 is asked first.
 abbrev pub X38 : Example
@@ -203,8 +210,184 @@ X51 = triangle (minus 3) payments-4 adjustments-4 (pos 1 ∷ pos 1 ∷ pos 1 ∷
 abbrev pub X52 : Example
 X52 = triangle (pos 2) payments-1 adjustments-1 (pos 1 ∷ []) (minus 1) [] is refused-by 2 0 0
 
-abbrev pub X13-to-X52 : List Example
-X13-to-X52 =
+-- E4 with weights 2, 1 and 3: a weight counts as it is, not squared, not for yes or no, and w(i, k) is not w(k, i).
+abbrev pub weights-53 : List ℤ
+weights-53 = pos 2 ∷ pos 1 ∷ pos 3 ∷ []
+
+abbrev pub X53 : Example
+X53 =
+    triangle (pos 3) payments-4 adjustments-4 weights-53 (pos 1) []
+    gives pos 96_000_000 ∷ minus 144_000_000 ∷ pos 0
+    ∷ pos 60_000_000 ∷ pos 1_538_462 ∷ pos 141_538_462 ∷ pos 56_615_385 ∷ minus 84_923_077 ∷ pos 0 ∷ []
+    and pos 0 ∷ pos 0 ∷ pos 0
+    ∷ pos 96_000_000 ∷ pos 96_000_000 ∷ pos 0
+    ∷ pos 116_615_385 ∷ pos 116_615_385 ∷ pos 0 ∷ []
+
+-- The same with S(1, 3) = −40: a negative payment raises the outstanding. Its unrounded reserves and its allowances stand below the table.
+abbrev pub X54 : Example
+X54 =
+    triangle (pos 3) (set payments-4 2 (minus 40)) adjustments-4 weights-53 (pos 1) []
+    gives minus 96_000_000 ∷ minus 144_000_000 ∷ pos 192_000_000
+    ∷ pos 60_000_000 ∷ pos 1_538_462 ∷ pos 141_538_462 ∷ minus 56_615_385 ∷ minus 84_923_077 ∷ pos 113_230_770 ∷ []
+    and pos 0 ∷ pos 80_000_000 ∷ pos 80_000_000
+    ∷ minus 96_000_000 ∷ pos 96_000_000 ∷ pos 192_000_000
+    ∷ pos 3_384_615 ∷ pos 116_615_385 ∷ pos 113_230_770 ∷ []
+
+-- Shares of exactly −7,812.5 and 39,062.5 millionths, by ratios −1 / 384 and 5 / 384 that no number of places holds.
+abbrev pub X55 : Example
+X55 =
+    complete 2 (pos 0 ∷ minus 1 ∷ pos 0 ∷ []) (pos 384 ∷ pos 5 ∷ pos 3 ∷ [])
+    gives minus 7_812 ∷ pos 39_063 ∷ pos 3_046_875 ∷ []
+    and pos 0 ∷ pos 390_000_000 ∷ pos 390_000_000 ∷ minus 7_812 ∷ pos 3_039_063 ∷ pos 3_046_875 ∷ []
+
+-- Both products, R × P and R × Q, pass 64 bits; that is no ground for a refusal.
+abbrev pub X56 : Example
+X56 =
+    complete 2 (pos 0 ∷ pos 400_000_000 ∷ pos 0 ∷ []) (pos 1_000_000_000 ∷ minus 500_000_000 ∷ pos 1_000_000_000 ∷ [])
+    gives pos 400_000_000_000_000 ∷ minus 500_000_000_000_000 ∷ pos 100_000_000_000_000 ∷ []
+    and pos 0 ∷ pos 100_000_000_000_000 ∷ pos 100_000_000_000_000
+    ∷ pos 400_000_000_000_000 ∷ pos 500_000_000_000_000 ∷ pos 100_000_000_000_000 ∷ []
+
+-- An adjustment alone one millionth above the limit of question 9, an outstanding alone, and a negative payment alone.
+abbrev pub X57 : Example
+X57 = many-times (pos 97_428_513) (pos 98_428_513) is refused-by 9 2 2
+
+abbrev pub X58 : Example
+X58 = many-times (pos 0) (pos 97_428_513) is refused-by 9 2 2
+
+abbrev pub X59 : Example
+X59 = many-times (minus 98_428_513) (minus 97_428_513) is refused-by 9 2 2
+
+-- Question 9 fails in the second projected year of a row, after a first that passed.
+abbrev pub X60 : Example
+X60 = complete 3 (replicate 6 (pos 0)) (pos 1 ∷ pos 0 ∷ pos 999_999_999 ∷ pos 1 ∷ pos 0 ∷ pos 11 ∷ []) is refused-by 9 3 3
+
+-- Question 9 goes year by year, not figure by figure: the outstanding of (3, 2) and the payment of (3, 3) are too large.
+abbrev pub X61 : Example
+X61 = complete 3 (set (replicate 6 (pos 0)) 2 (pos 2)) (pos 1 ∷ pos 0 ∷ pos 1 ∷ pos 1 ∷ pos 999_999_999 ∷ pos 20 ∷ []) is refused-by 9 3 2
+
+-- Each list alone of a wrong length: a payment too few and too many.
+abbrev pub X62 : Example
+X62 = complete 2 (pos 100 ∷ pos 60 ∷ []) adjustments-1 is refused-by 3 0 0
+
+abbrev pub X63 : Example
+X63 = complete 2 (pos 100 ∷ pos 60 ∷ pos 50 ∷ pos 0 ∷ []) adjustments-1 is refused-by 3 0 0
+
+-- an adjustment too few and too many
+abbrev pub X64 : Example
+X64 = complete 2 payments-1 (pos 200 ∷ minus 40 ∷ []) is refused-by 3 0 0
+
+abbrev pub X65 : Example
+X65 = complete 2 payments-1 (pos 200 ∷ minus 40 ∷ pos 130 ∷ pos 0 ∷ []) is refused-by 3 0 0
+
+-- a weight too many, an opening too few, a future list one too long and a reserve list one short
+abbrev pub X66 : Example
+X66 = triangle (pos 3) payments-4 adjustments-4 (replicate 4 (pos 1)) (pos 1) [] is refused-by 3 0 0
+
+abbrev pub X67 : Example
+X67 = triangle (pos 3) payments-7 adjustments-7 (pos 0 ∷ pos 1 ∷ pos 1 ∷ []) (pos 2) [] is refused-by 3 0 0
+
+abbrev pub X68 : Example
+X68 = with-lengths 4 6 (complete 2 payments-1 adjustments-1) (refused-by 3 0 0)
+
+abbrev pub X69 : Example
+X69 = with-lengths 3 5 (complete 2 payments-1 adjustments-1) (refused-by 3 0 0)
+
+-- Question 4 goes row by row: (1, 2) is too large and (2, 1) below 0.
+abbrev pub X70 : Example
+X70 = triangle (pos 3) payments-4 adjustments-4 (pos 1 ∷ pos 101 ∷ minus 1 ∷ []) (pos 1) [] is refused-by 4 1 2
+
+-- Question 5 asks the adjustments row by row too: (1, 2) is too large and (2, 1) too small.
+abbrev pub X71 : Example
+X71 = complete 3 payments-4 (set (set adjustments-4 1 too-large) 3 (negℤ too-large)) is refused-by 5 1 2
+
+-- An adjustment one below the least, in the last row.
+abbrev pub X72 : Example
+X72 = complete 3 payments-4 (set adjustments-4 5 (negℤ too-large)) is refused-by 5 3 1
+
+-- A missing payment below 0, and a missing adjustment that is not 0.
+abbrev pub X73 : Example
+X73 = cut-3 (set nothing 1 (minus 7)) nothing (pos 50 ∷ pos 60 ∷ []) is refused-by 5 1 2
+
+abbrev pub X74 : Example
+X74 = cut-3 nothing (set nothing 4 (pos 7)) (pos 50 ∷ pos 60 ∷ []) is refused-by 5 2 1
+
+-- Question 6 asks the last observed year too, also of the youngest accident year: R(3, 1) is −1.
+abbrev pub X75 : Example
+X75 = complete 3 payments-4 (set adjustments-4 5 (pos 49)) is refused-by 6 3 1
+
+-- E7 with an opening of 0, and E6 with R(1, 1) = 0: R(1, 2) is 100 as before, and the answer is theirs.
+abbrev pub X76 : Example
+X76 = triangle (pos 3) payments-7 (set adjustments-7 1 (pos 160)) (pos 0 ∷ pos 1 ∷ pos 1 ∷ []) (pos 2) (pos 0 ∷ []) gives future-6 and reserves-6
+
+abbrev pub X77 : Example
+X77 = triangle (pos 3) payments-4 (set (set adjustments-4 0 (pos 100)) 1 (pos 160)) (pos 0 ∷ pos 1 ∷ pos 1 ∷ []) (pos 1) [] gives future-6 and reserves-6
+
+-- Four years with Y = 3, where question 7 asks (1, 1), (1, 2) and (2, 1), row by row.
+abbrev pub weights-of-cut-3 : List ℤ → Triangle
+weights-of-cut-3 w = triangle (pos 4) nothing nothing w (pos 3) (pos 50 ∷ pos 60 ∷ [])
+
+-- (2, 1) alone has a weight
+abbrev pub X78 : Example
+X78 = weights-of-cut-3 (pos 0 ∷ pos 0 ∷ pos 1 ∷ pos 1 ∷ pos 1 ∷ pos 1 ∷ []) is refused-by 7 2 1
+
+-- (1, 2) and (2, 1) have one
+abbrev pub X79 : Example
+X79 = weights-of-cut-3 (pos 0 ∷ pos 1 ∷ pos 1 ∷ pos 1 ∷ pos 1 ∷ pos 1 ∷ []) is refused-by 7 1 2
+
+-- Without any weight no development year has exposure, and the first decides.
+abbrev pub X80 : Example
+X80 = triangle (pos 3) payments-4 adjustments-4 (replicate 3 (pos 0)) (pos 1) [] is refused-by 8 0 1
+
+-- Each year goes on from the rounded outstanding, and a reserve adds rounded movements: 1,000,001 is paid in accident year 3, where the unrounded method has 1,000,000.
+abbrev pub X81 : Example
+X81 =
+    complete 3 (pos 0 ∷ pos 1 ∷ pos 2 ∷ pos 0 ∷ pos 0 ∷ pos 0 ∷ []) (pos 3 ∷ minus 1 ∷ pos 2 ∷ pos 0 ∷ pos 0 ∷ pos 1 ∷ [])
+    gives pos 0 ∷ pos 0 ∷ pos 0
+    ∷ pos 333_333 ∷ minus 333_333 ∷ pos 333_334 ∷ pos 666_668 ∷ pos 666_668 ∷ pos 333_334 ∷ []
+    and pos 0 ∷ pos 1_000_000 ∷ pos 1_000_000
+    ∷ pos 0 ∷ pos 0 ∷ pos 0
+    ∷ pos 1_000_001 ∷ pos 1_333_335 ∷ pos 333_334 ∷ []
+
+-- Of four years, a development year in the middle has no exposure.
+abbrev pub X82 : Example
+X82 =
+    triangle (pos 4) nothing (set (set (set (set nothing 0 (pos 10)) 4 (pos 10)) 7 (pos 10)) 9 (pos 10)) (pos 1 ∷ pos 0 ∷ pos 1 ∷ pos 1 ∷ pos 0 ∷ pos 1 ∷ []) (pos 1) []
+    is refused-by 8 0 2
+
+-- Four years in which only accident year 1 moves: its outstanding is 1, 1, 1,000,000,000 and 0, by half paid and half taken back in its last year.
+abbrev pub middle-year : List ℤ → Triangle
+middle-year younger = complete 4 (set nothing 3 (pos 500_000_000)) (pos 1 ∷ pos 0 ∷ pos 999_999_999 ∷ minus 500_000_000 ∷ pos 0 ∷ pos 0 ∷ pos 0 ∷ younger)
+
+-- Question 9 asks a year between the first and the last of a row: (4, 3) alone is too large.
+abbrev pub X83 : Example
+X83 = middle-year (pos 0 ∷ pos 0 ∷ pos 11 ∷ []) is refused-by 9 4 3
+
+-- It asks a row between the second and the last: (3, 3) alone is too large.
+abbrev pub X84 : Example
+X84 = middle-year (pos 11 ∷ pos 0 ∷ pos 0 ∷ []) is refused-by 9 3 3
+
+abbrev pub X13-to-X84 : List Example
+X13-to-X84 =
     X13 ∷ X14 ∷ X15 ∷ X16 ∷ X17 ∷ X18 ∷ X19 ∷ X20 ∷ X21 ∷ X22 ∷ X23 ∷ X24 ∷ X25 ∷ X26
     ∷ X27 ∷ X28 ∷ X29 ∷ X30 ∷ X31 ∷ X32 ∷ X33 ∷ X34 ∷ X35 ∷ X36 ∷ X37 ∷ X38 ∷ X39
-    ∷ X40 ∷ X41 ∷ X42 ∷ X43 ∷ X44 ∷ X45 ∷ X46 ∷ X47 ∷ X48 ∷ X49 ∷ X50 ∷ X51 ∷ X52 ∷ []
+    ∷ X40 ∷ X41 ∷ X42 ∷ X43 ∷ X44 ∷ X45 ∷ X46 ∷ X47 ∷ X48 ∷ X49 ∷ X50 ∷ X51 ∷ X52
+    ∷ X53 ∷ X54 ∷ X55 ∷ X56 ∷ X57 ∷ X58 ∷ X59 ∷ X60 ∷ X61 ∷ X62 ∷ X63 ∷ X64 ∷ X65 ∷ X66
+    ∷ X67 ∷ X68 ∷ X69 ∷ X70 ∷ X71 ∷ X72 ∷ X73 ∷ X74 ∷ X75 ∷ X76 ∷ X77 ∷ X78 ∷ X79 ∷ X80
+    ∷ X81 ∷ X82 ∷ X83 ∷ X84 ∷ []
+
+-- ---- The unrounded method, and an allowance by a negative payment ratio
+
+-- The unrounded reserves of accident year 3 of X54, in millionths: its outstanding goes from 200,000,000 over 1,840,000,000 / 13 to 1,472,000,000 / 13.
+abbrev pub X54-unrounded : Type 0
+X54-unrounded =
+    (unrounded-paid (method (X54 .triangle)) 3 ≈ pos 44_000_000 over pos 13)
+    × (unrounded-incurred (method (X54 .triangle)) 3 ≈ pos 1_516_000_000 over pos 13)
+    × (U (method (X54 .triangle)) 3 3 ≈ pos 1_472_000_000 over pos 13)
+
+-- The allowances of the same year: 0.5 + 0.9 for the paid reserve, 0.5 + 1.1 for the incurred reserve, and 0.8 + 1 for the closing.
+abbrev pub X54-allowances : Type 0
+X54-allowances =
+    (paid-allowance (method (X54 .triangle)) 3 ≈ pos 14 over pos 10)
+    × (incurred-allowance (method (X54 .triangle)) 3 ≈ pos 16 over pos 10)
+    × (A (method (X54 .triangle)) 3 3 ≈ pos 18 over pos 10)
