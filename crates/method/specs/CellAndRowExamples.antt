@@ -26,8 +26,8 @@ pub record CellExample : Type 0 where
   pub wanted : CellOutcome
 
 -- accepted, with the three figures of cell (i, k)
-abbrev pub cell-of : Triangle → ℤ → ℤ → ℤ → ℤ → ℤ → CellExample
-cell-of t i k payment adjustment outstanding = record {
+abbrev pub gives-cell : Triangle → ℤ → ℤ → ℤ → ℤ → ℤ → CellExample
+gives-cell t i k payment adjustment outstanding = record {
   triangle = t;
   accident-year = i;
   development-year = k;
@@ -41,8 +41,8 @@ cell-of t i k payment adjustment outstanding = record {
   };
 }
 
-abbrev pub no-cell-of : Triangle → ℤ → ℤ → Refusal → CellExample
-no-cell-of t i k refusal = record {
+abbrev pub refuses-cell : Triangle → ℤ → ℤ → Refusal → CellExample
+refuses-cell t i k refusal = record {
   triangle = t;
   accident-year = i;
   development-year = k;
@@ -62,24 +62,24 @@ triangle-4 = E4 .triangle
 abbrev pub cell-examples : List CellExample
 cell-examples =
     -- year 3 of E4, as document 01 prints it
-    cell-of triangle-4 (pos 3) (pos 2) (pos 60_000_000) (minus 4_000_000) (pos 136_000_000)
-    ∷ cell-of triangle-4 (pos 3) (pos 3) (pos 54_400_000) (minus 81_600_000) (pos 0)
+    gives-cell triangle-4 (pos 3) (pos 2) (pos 60_000_000) (minus 4_000_000) (pos 136_000_000)
+    ∷ gives-cell triangle-4 (pos 3) (pos 3) (pos 54_400_000) (minus 81_600_000) (pos 0)
     -- the one unseen cell of accident year 2, the least that has one
-    ∷ cell-of triangle-4 (pos 2) (pos 3) (pos 96_000_000) (minus 144_000_000) (pos 0)
+    ∷ gives-cell triangle-4 (pos 2) (pos 3) (pos 96_000_000) (minus 144_000_000) (pos 0)
     -- a seen cell, accident year 1, an accident year and a development year above n
-    ∷ no-cell-of triangle-4 (pos 2) (pos 2) (refused-by 10 0 0)
-    ∷ no-cell-of triangle-4 (pos 1) (pos 4) (refused-by 10 0 0)
-    ∷ no-cell-of triangle-4 (pos 4) (pos 1) (refused-by 10 0 0)
-    ∷ no-cell-of triangle-4 (pos 3) (pos 4) (refused-by 10 0 0)
+    ∷ refuses-cell triangle-4 (pos 2) (pos 2) (refused-by 10 0 0)
+    ∷ refuses-cell triangle-4 (pos 1) (pos 4) (refused-by 10 0 0)
+    ∷ refuses-cell triangle-4 (pos 4) (pos 1) (refused-by 10 0 0)
+    ∷ refuses-cell triangle-4 (pos 3) (pos 4) (refused-by 10 0 0)
     -- negative years are not taken for their sizes
-    ∷ no-cell-of triangle-4 (minus 3) (pos 2) (refused-by 10 0 0)
-    ∷ no-cell-of triangle-4 (pos 3) (minus 2) (refused-by 10 0 0)
-    ∷ no-cell-of triangle-4 least-64-bit least-64-bit (refused-by 10 0 0)
+    ∷ refuses-cell triangle-4 (minus 3) (pos 2) (refused-by 10 0 0)
+    ∷ refuses-cell triangle-4 (pos 3) (minus 2) (refused-by 10 0 0)
+    ∷ refuses-cell triangle-4 least-64-bit least-64-bit (refused-by 10 0 0)
     -- the triangle's own questions come first: a list of a wrong length, E8, and a 9 in another row, also where question 10 fails too
-    ∷ no-cell-of (complete 3 payments-1 adjustments-4) (pos 3) (pos 2) (refused-by 3 0 0)
-    ∷ no-cell-of (E8 .triangle) (pos 9) (pos 9) (refused-by 8 0 1)
-    ∷ no-cell-of late-refusal (pos 2) (pos 3) (refused-by 9 3 2)
-    ∷ no-cell-of late-refusal (pos 9) (pos 9) (refused-by 9 3 2)
+    ∷ refuses-cell (complete 3 payments-1 adjustments-4) (pos 3) (pos 2) (refused-by 3 0 0)
+    ∷ refuses-cell (E8 .triangle) (pos 9) (pos 9) (refused-by 8 0 1)
+    ∷ refuses-cell late-refusal (pos 2) (pos 3) (refused-by 9 3 2)
+    ∷ refuses-cell late-refusal (pos 9) (pos 9) (refused-by 9 3 2)
     ∷ []
 
 abbrev pub Cells-hold : List CellExample → Type 0
