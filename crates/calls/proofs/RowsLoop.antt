@@ -67,10 +67,10 @@ module _ {n : ℕ} {ratios : List Sums} {outstandings : List ℤ} where
     of-row : {A : Type 0} (f : ℕ → ℤ → A) → f (r + 1) (units *ℤ one-unit) ≡ f (suc r) (observed-of n ratios outstandings (suc r))
     of-row f = ap₂ f (add-one r) (sym (ap (λ (x : ℤ). x *ℤ one-unit) (entry-at outstandings r)))
 
-    pub row-verdict-is : {start : ℕ} {before after : List ℤ} {row : ProjectedRow} → RowProjected n ratios (r + 1) (units *ℤ one-unit) start before row after
+    pub verdict-of-row-is : {start : ℕ} {before after : List ℤ} {row : ProjectedRow} → RowProjected n ratios (r + 1) (units *ℤ one-unit) start before row after
         → verdict-of-row n ratios outstandings (r + 1) ≡ verdict-of (row .verdict)
     unfolding verdict-of-row
-    row-verdict-is p = ap (verdict-of-row n ratios outstandings) (add-one r) ∙ sym (of-row (figures-verdict n ratios)) ∙ sym (p .verdict-is)
+    verdict-of-row-is p = ap (verdict-of-row n ratios outstandings) (add-one r) ∙ sym (of-row (figures-verdict n ratios)) ∙ sym (p .verdict-is)
 
   -- ---- Both lists
 
@@ -89,7 +89,7 @@ module _ {n : ℕ} {ratios : List Sums} {outstandings : List ℤ} where
       pub row-refused : {question : ℕ} {q : Place} → verdict-of (row .verdict) ≡ refused question q
           → RowsProjected n ratios outstandings (verdict-of (row .verdict)) after reserves
       row-refused e = record {
-        verdict-is = e ∙ sym (next-refused (s .asked) more (row-verdict-is ok r more p ∙ e));
+        verdict-is = e ∙ sym (next-refused (s .asked) more (verdict-of-row-is ok r more p ∙ e));
         future-is = λ a. absurd (not-both a e);
         reserves-are = λ a. absurd (not-both a e);
       }
@@ -117,7 +117,7 @@ module _ {n : ℕ} {ratios : List Sums} {outstandings : List ℤ} where
 
         pub next-row : RowsSoFar n ratios outstandings after (sets reserves (3 * r) three) (place + 3 * r) (r + 1)
         next-row = subst (RowsSoFar n ratios outstandings after (sets reserves (3 * r) three) (place + 3 * r)) (sym (add-one r)) (record {
-          asked = subst (PassedSoFar n (verdict-of-row n ratios outstandings)) (add-one r) (next-accepted (s .asked) more (row-verdict-is ok r more p ∙ e));
+          asked = subst (PassedSoFar n (verdict-of-row n ratios outstandings)) (add-one r) (next-accepted (s .asked) more (verdict-of-row-is ok r more p ∙ e));
           place-is = next-place;
           future-whole = row-list-length p ∙ s .future-whole;
           reserves-whole = length-sets reserves (3 * r) three ∙ s .reserves-whole;

@@ -83,7 +83,7 @@ cell-examples =
     ∷ []
 
 abbrev pub Cells-hold : List CellExample → Type 0
-Cells-hold table = map answered table ≡ map (λ (e : CellExample). e .wanted) table
+Cells-hold table = map outcome-of table ≡ map (λ (e : CellExample). e .wanted) table
   where
     outcome : CellAnswer → CellOutcome
     outcome a = record {
@@ -95,8 +95,8 @@ Cells-hold table = map answered table ≡ map (λ (e : CellExample). e .wanted) 
       outstanding = a .outstanding;
     }
 
-    answered : CellExample → CellOutcome
-    answered e = outcome (single-cell (e .triangle) (e .accident-year) (e .development-year))
+    outcome-of : CellExample → CellOutcome
+    outcome-of e = outcome (single-cell (e .triangle) (e .accident-year) (e .development-year))
 
 -- ---- Rows; a refusal of a row is at (0, 0)
 
@@ -164,12 +164,12 @@ row-examples =
     ∷ []
 
 abbrev pub Rows-hold : List RowExample → Type 0
-Rows-hold table = map answered table ≡ map (λ (e : RowExample). e .wanted) table
+Rows-hold table = map outcome-of table ≡ map (λ (e : RowExample). e .wanted) table
   where
     outcome : Verdict → List ℤ → RowOutcome
     outcome v xs = record { number = number v; accident-year = place v .accident-year; development-year = place v .development-year; row = xs }
 
-    answered : RowExample → RowOutcome
-    answered e = outcome
+    outcome-of : RowExample → RowOutcome
+    outcome-of e = outcome
         (row-verdict (e .years) (e .payment-list) (e .adjustment-list) (e .accident-year))
         (row (e .years) (e .payment-list) (e .adjustment-list) (e .accident-year) (e .named))

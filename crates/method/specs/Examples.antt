@@ -80,7 +80,7 @@ t is refusal = with-lengths (future-length (natAbs (t .years))) (reserves-length
 
 -- Every row of a table holds.
 abbrev pub Hold : List Example → Type 0
-Hold table = map answered table ≡ map (λ (e : Example). e .wanted) table
+Hold table = map outcome-of table ≡ map (λ (e : Example). e .wanted) table
   where
     outcome : Answer → Outcome
     outcome a = record {
@@ -91,8 +91,8 @@ Hold table = map answered table ≡ map (λ (e : Example). e .wanted) table
       reserves = a .reserves;
     }
 
-    answered : Example → Outcome
-    answered e = outcome (answer (e .triangle) (e .future-room) (e .reserves-room))
+    outcome-of : Example → Outcome
+    outcome-of e = outcome (answer (e .triangle) (e .future-room) (e .reserves-room))
 
 -- ---- E1 to E12
 

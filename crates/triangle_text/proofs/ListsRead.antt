@@ -102,8 +102,8 @@ module _ (asked : Asked) where
       (in-payments : BlockReadAs paid p payments) (in-adjustments : BlockReadAs adjusted a adjustments)
       (in-weights : BlockReadAs weighted w weights) (in-openings : BlockReadAs opened o openings) where
     -- the first fault of the four, and how many numbers of each
-    abbrev pub answered : TextRead
-    answered = record {
+    abbrev pub whole-text-read : TextRead
+    whole-text-read = record {
       fault = first-fault (p .fault) (first-fault (a .fault) (first-fault (w .fault) (o .fault)));
       asked = asked;
       payments = p .count;
@@ -112,7 +112,7 @@ module _ (asked : Asked) where
       openings = o .count;
     }
 
-    pub blocks-read : TextReadAs (of-blocks paid adjusted weighted opened) answered payments adjustments weights openings
+    pub blocks-read : TextReadAs (of-blocks paid adjusted weighted opened) whole-text-read payments adjustments weights openings
     blocks-read = record {
       fault-is = rw (in-payments .fault-is, in-adjustments .fault-is, in-weights .fault-is, in-openings .fault-is) (fault-of-blocks paid adjusted weighted opened);
       asked-is = λ other lists e. all-read paid adjusted weighted opened e .asked-is;

@@ -10,7 +10,7 @@ use Rattle.method.proofs.FirstRefusal.{PassedSoFar, none-asked, next-accepted, 
 use Rattle.verdicts.specs.Verdicts.{verdict-of}
 use Rattle.calls.specs.ProjectedRows.{verdict-of-row}
 use Rattle.calls.proofs.RowLoop.{row-list-length}
-use Rattle.calls.proofs.RowsLoop.{row-input, row-verdict-is}
+use Rattle.calls.proofs.RowsLoop.{row-input, verdict-of-row-is}
 use Rattle.single_cell.proofs.question_9.Statement.{statement}
 use Rattle.single_cell.proofs.question_9.Tie as tie
 
@@ -39,7 +39,7 @@ said : (c : tie.After-project-row Inv-loop μ-loop) →
     verdict-of-row (a .n) (a .development .ratios) (a .development .outstandings) (t .before .loop .r + 1) ≡ verdict-of (c .project-row .result .verdict)
 said c =
     let t = c .before .before .before in
-    row-verdict-is (start t .pre) (t .before .loop .r) (omega arith) (simp (observed-read (c .before .before)) at (c .project-row .ensures))
+    verdict-of-row-is (start t .pre) (t .before .loop .r) (omega arith) (simp (observed-read (c .before .before)) at (c .project-row .ensures))
 
 loop-holds : tie.Need-loop-holds Inv-loop μ-loop
 loop-holds c = (none-asked _ _, refl)

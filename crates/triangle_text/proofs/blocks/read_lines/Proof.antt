@@ -121,11 +121,11 @@ told-row c = c .before .before .before .same-kind .ensures ∙ ap is-row (headin
 abbrev part : tie.After-list Inv-loop μ-loop → List ℤ
 part c = c .before .read-line .last .1 .1 .1 .1 .1 .1 .0
 
-answered : (c : tie.After-list Inv-loop μ-loop) → let k = heading-asked c in let t = turn k in let l = t .loop in
+line-told : (c : tie.After-list Inv-loop μ-loop) → let k = heading-asked c in let t = turn k in let l = t .loop in
     LineReadAs (t .before .before .args .shape) (rows-after (row c) (l .rows))
     (line-in (separator k) (t .before .before .args .shape) (suc (l .line)) (l .rows) (length (t .before .before .args .list .now) - l .count) (content k) (row c))
     (c .before .read-line .result) (part c)
-answered c = rw (told-row c, part-length (c .before .before), add-one (turn (heading-asked c) .loop .line)) at (c .before .read-line .ensures)
+line-told c = rw (told-row c, part-length (c .before .before), add-one (turn (heading-asked c) .loop .line)) at (c .before .read-line .ensures)
 
 read-line-requires : tie.Need-read-line-requires Inv-loop μ-loop
 read-line-requires c κs =
@@ -153,7 +153,7 @@ returns-2 c =
     let k = heading-asked a in
     let t = turn k in
     fault-next (t .loop .inv) (line-and-others (text k) (t .loop .start) (content k) (k .before .before .first-line .ensures) (omega arith))
-    (no-heading a) (answered a .read .fault-is) (c .enum-told2 .given .1) _ (a .list .given .1 ∙ t .loop .inv .same-length)
+    (no-heading a) (line-told a .read .fault-is) (c .enum-told2 .given .1) _ (a .list .given .1 ∙ t .loop .inv .same-length)
 
 add-count : tie.Need-add-count Inv-loop μ-loop
 add-count c = search needs
@@ -206,7 +206,7 @@ loop-again c =
     let lent = a .list .given .0 ∙ part-length (a .before .before) in
     let rows = c .before .before .rows-after .ensures ∙ ap (λ r. rows-after r (l .rows)) (told-row a) in
     rw rows
-    (line-read (l .inv) (at .parts) (no-heading a) (answered a) (c .before .before .before .before .enum-told .given .1) refl (omega (arith, at .further)) (at .within)
+    (line-read (l .inv) (at .parts) (no-heading a) (line-told a) (c .before .before .before .before .enum-told .given .1) refl (omega (arith, at .further)) (at .within)
     (b .same-length ∙ l .inv .same-length) (b .first-kept)
     (sym (take-all (length (part a)) _ (omega (arith, length-drop (l .count) (putMid (l .count) (length (l .list) - l .count) (l .list) (part a)), b .same-length, l .inv .same-length, lent))) ∙ b .part-there))
 
