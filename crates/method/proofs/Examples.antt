@@ -1,8 +1,10 @@
 -- The tables of examples, each by one computation of the definitions.
-use mathlib.Core.Path.{refl}
+use mathlib.Core.Path.{_≡_, refl}
 use Prim.Native.Nat.{ℕ}
-use lib.Signed.{ltZ-yes}
-use Rattle.integers.specs.Fraction.{Fraction, _⊕_, _⊖_, _⊗_}
+use lib.Dec.{T as IsTrue}
+use lib.IntN.{pos, _*ℤ_}
+use lib.Signed.{ltZ, ltZ-yes}
+use Rattle.integers.specs.Fraction.{Fraction, _⊕_, _⊖_, _⊗_, _≈_}
 use Rattle.integers.specs.HalfUp.{floor, half-up}
 use Rattle.method.specs.Counting.{up-to}
 use Rattle.method.specs.Triangle.{Triangle, cells-before, cell, entry}
@@ -27,6 +29,11 @@ allowed : Triangle → ℕ → ℕ → Fraction
 unfolding computed unrounded-year allowed-year U A unrounded-movement allowance unrounded-paid unrounded-incurred paid-allowance incurred-allowance _⊕_ _⊖_ _⊗_
 allowed t i k = A (method t) i k
 
+-- two fractions whose parts compute
+by-computing : {f g : Fraction} → IsTrue (ltZ (pos 0) (f .denominator)) → IsTrue (ltZ (pos 0) (g .denominator))
+    → f .numerator *ℤ g .denominator ≡ g .numerator *ℤ f .denominator → f ≈ g
+by-computing p q e = record { left-positive = ltZ-yes p; right-positive = ltZ-yes q; across = e }
+
 pub E1-to-E12-hold : Hold E1-to-E12
 unfolding computed
 E1-to-E12-hold = refl
@@ -41,27 +48,15 @@ E2-uses-them = (refl, refl)
 
 pub E5-allowances-hold : E5-allowances
 unfolding allowed
-E5-allowances-hold = (
-  record { left-positive = ltZ-yes tt; right-positive = ltZ-yes tt; across = refl },
-  record { left-positive = ltZ-yes tt; right-positive = ltZ-yes tt; across = refl },
-  record { left-positive = ltZ-yes tt; right-positive = ltZ-yes tt; across = refl },
-)
+E5-allowances-hold = (by-computing tt tt refl, by-computing tt tt refl, by-computing tt tt refl)
 
 pub X54-unrounded-holds : X54-unrounded
 unfolding allowed
-X54-unrounded-holds = (
-  record { left-positive = ltZ-yes tt; right-positive = ltZ-yes tt; across = refl },
-  record { left-positive = ltZ-yes tt; right-positive = ltZ-yes tt; across = refl },
-  record { left-positive = ltZ-yes tt; right-positive = ltZ-yes tt; across = refl },
-)
+X54-unrounded-holds = (by-computing tt tt refl, by-computing tt tt refl, by-computing tt tt refl)
 
 pub X54-allowances-hold : X54-allowances
 unfolding allowed
-X54-allowances-hold = (
-  record { left-positive = ltZ-yes tt; right-positive = ltZ-yes tt; across = refl },
-  record { left-positive = ltZ-yes tt; right-positive = ltZ-yes tt; across = refl },
-  record { left-positive = ltZ-yes tt; right-positive = ltZ-yes tt; across = refl },
-)
+X54-allowances-hold = (by-computing tt tt refl, by-computing tt tt refl, by-computing tt tt refl)
 
 pub cell-examples-hold : Cells-hold cell-examples
 unfolding computed cell-unseen question-10 cell-verdict cell-figures single-cell
