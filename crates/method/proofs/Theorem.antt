@@ -18,7 +18,7 @@ use Rattle.method.specs.Outstandings.{R, sums}
 use Rattle.method.specs.ProjectedYear.{unrounded-year}
 use Rattle.method.specs.RunOff.{Method, U, unrounded-movement, last-observed, first-outstanding, year-before, unrounded-paid, unrounded-incurred, method}
 use Rattle.method.specs.AnswerPlaces.{Projected, AccidentYear}
-use Rattle.method.specs.Theorem.{product-from-to, sum-from-to, α, β, f, Unseen, projected-S, projected-T, last-R, Theorem-3-2, RatiosExist, Theorem-3-2-wherever-ratios-exist, Theorem-3-2-of-every-accepted-triangle}
+use Rattle.method.specs.Theorem.{product-from-to, sum-from-to, α, β, f, Unseen, projected-S, projected-T, last-R, Theorem-3-2, ExposuresPositive, Theorem-3-2-where-exposures-are-positive, Theorem-3-2-of-every-accepted-triangle}
 use Rattle.method.proofs.Counting.{up-to-none, up-to-more, up-to-same, up-to-keeps}
 use Rattle.method.proofs.SumBounds.{factor-is}
 use Rattle.method.proofs.RunOff.{U-observed, U-projected}
@@ -151,9 +151,9 @@ module _ (t : Triangle) (i : ℕ) (y : AccidentYear (n t) i) where
 
 -- ---- The rule of document 01
 
-module _ (t : Triangle) (exist : RatiosExist t) where
+module _ (t : Triangle) (exposures : ExposuresPositive t) where
   exposed : (i k : ℕ) → Projected (n t) i k → pos 0 <ℤ sums t k .D
-  exposed i k p = exist k (omega (arith, p .row, p .after)) (p .year)
+  exposed i k p = exposures k (omega (arith, p .row, p .after)) (p .year)
 
   pub method-moves : MovesUnrounded (method t)
   unfolding unrounded-year
@@ -166,19 +166,19 @@ module _ (t : Triangle) (exist : RatiosExist t) where
   -- ---- The factor
 
   factor-is-one-less-payment-plus-adjustment : (k : ℕ) → 1 ≤ k → k < n t → f t k ≈ pos 1 over pos 1 ⊖ α t k ⊕ β t k
-  factor-is-one-less-payment-plus-adjustment k a b = numerators-apart (sums t k .P) (sums t k .Q) (sums t k .D) (exist k a b)
+  factor-is-one-less-payment-plus-adjustment k a b = numerators-apart (sums t k .P) (sums t k .Q) (sums t k .D) (exposures k a b)
 
   factor-is-ratio-of-outstandings : (k : ℕ) → 1 ≤ k → k < n t
       → f t k ≈ sum-to (n t - k) (λ i. w t i k *ℤ R t i (k + 1)) over sum-to (n t - k) (λ i. w t i k *ℤ R t i k)
   unfolding sums
   factor-is-ratio-of-outstandings k a b =
       let next : suc k ≡ k + 1 = omega arith in
-      same-≡ (exist k a b)
+      same-≡ (exposures k a b)
       (ap (λ x. x over sums t k .D) (factor-is t k ∙ ap (λ (x : ℕ). sum-to (n t - k) (λ i. w t i k *ℤ R t i x)) next))
 
   factor-of-last-year-is-zero : R t 1 (n t) ≡ pos 0 → (k : ℕ) → 1 ≤ k → suc k ≡ n t → f t k ≈ pos 0 over pos 1
   factor-of-last-year-is-zero z k a e =
-      let exposure = exist k a (omega arith) in
+      let exposure = exposures k a (omega arith) in
       same-≡ exposure (ap (λ x. x over sums t k .D) (last-factor-zero t k e z)) and-so zero-over (sums t k .D) exposure
 
   -- ---- An outstanding is a product-from-to of factors
@@ -202,7 +202,7 @@ module _ (t : Triangle) (exist : RatiosExist t) where
 
     factors-are-number : (k : ℕ) → k ≤ n t → IsNumber (factors k)
     factors-are-number k l = up-to-keeps _⊗_ (pos 1 over pos 1) IsNumber (ltZ-yes tt) ⊗-is-number _ _
-        (λ j a b. exist _ (omega (arith, y .last)) (omega (arith, y .last)))
+        (λ j a b. exposures _ (omega (arith, y .last)) (omega (arith, y .last)))
 
     last-observed-is-product : (k : ℕ) → k ≡ last-observed (method t) i → u k ≈ last-R t i ⊗ factors k
     last-observed-is-product k e =
@@ -259,13 +259,13 @@ module _ (t : Triangle) (exist : RatiosExist t) where
 
 -- ---- The theorem
 
-module _ (t : Triangle) (exist : RatiosExist t) where
+module _ (t : Triangle) (exposures : ExposuresPositive t) where
   accident-year : (i k : ℕ) → Unseen t i k → AccidentYear (n t) i
   accident-year i k p = record { first = omega (arith, p .after, p .year); last = p .row }
 
   share-turned : (i k : ℕ) → Unseen t i k → (ratio : Fraction) → IsNumber ratio → U (method t) i (k - 1) ⊗ ratio ≈ ratio ⊗ U (method t) i (k - 1)
   share-turned i k p ratio h =
-      let number = outstanding-is-number (method t) (method-moves t exist) i (accident-year i k p) (k - 1) (omega (arith, p .year)) in
+      let number = outstanding-is-number (method t) (method-moves t exposures) i (accident-year i k p) (k - 1) (omega (arith, p .year)) in
       fractions 2 (λ u r. u :* r := r :* u) (tt, tt, tt) (U (method t) i (k - 1)) ratio (number, (h, tt))
 
   share-of-unseen-cell : (i k : ℕ) → Unseen t i k → (ratio : Fraction) → IsNumber ratio
@@ -273,26 +273,26 @@ module _ (t : Triangle) (exist : RatiosExist t) where
   share-of-unseen-cell i k p ratio h =
       let two-before : k - 1 - 1 ≡ k - 2 = omega arith in
       subst (λ (x : ℕ). U (method t) i (k - 1) ⊗ ratio ≈ ratio ⊗ last-R t i ⊗ product-from-to (n t + 1 - i) x (f t)) two-before
-      (share-is-product-of-factors t exist i (accident-year i k p) ratio h (k - 1) (p .after) (omega (arith, p .year)))
+      (share-is-product-of-factors t exposures i (accident-year i k p) ratio h (k - 1) (p .after) (omega (arith, p .year)))
 
   in-all : Theorem-3-2 t
   unfolding unrounded-movement unrounded-year
   in-all = record {
-    factor = factor-is-one-less-payment-plus-adjustment t exist;
-    factor-of-outstandings = factor-is-ratio-of-outstandings t exist;
-    payment-of-outstanding = λ i k p. share-turned i k p (α t (k - 1)) (exposed t exist i (k - 1) p);
-    payment = λ i k p. share-of-unseen-cell i k p (α t (k - 1)) (exposed t exist i (k - 1) p);
-    adjustment-of-outstanding = λ i k p. share-turned i k p (β t (k - 1)) (exposed t exist i (k - 1) p);
-    adjustment = λ i k p. share-of-unseen-cell i k p (β t (k - 1)) (exposed t exist i (k - 1) p);
-    outstanding = λ i k p. outstanding-is-product-of-factors t exist i (accident-year i k p) k (omega (arith, p .after)) (omega (arith, p .year));
-    no-gap = λ z i y. rw (sym (paid-reserve-is-sum t i y), sym (incurred-reserve-is-sum t i y)) (unrounded-reserves-same t exist i y z);
+    factor = factor-is-one-less-payment-plus-adjustment t exposures;
+    factor-of-outstandings = factor-is-ratio-of-outstandings t exposures;
+    payment-of-outstanding = λ i k p. share-turned i k p (α t (k - 1)) (exposed t exposures i (k - 1) p);
+    payment = λ i k p. share-of-unseen-cell i k p (α t (k - 1)) (exposed t exposures i (k - 1) p);
+    adjustment-of-outstanding = λ i k p. share-turned i k p (β t (k - 1)) (exposed t exposures i (k - 1) p);
+    adjustment = λ i k p. share-of-unseen-cell i k p (β t (k - 1)) (exposed t exposures i (k - 1) p);
+    outstanding = λ i k p. outstanding-is-product-of-factors t exposures i (accident-year i k p) k (omega (arith, p .after)) (omega (arith, p .year));
+    no-gap = λ z i y. rw (sym (paid-reserve-is-sum t i y), sym (incurred-reserve-is-sum t i y)) (unrounded-reserves-same t exposures i y z);
     paid-side = paid-reserve-is-sum t;
     incurred-side = incurred-reserve-is-sum t;
-    gap = reserves-apart-by-last-outstanding (method t) (method-moves t exist);
+    gap = reserves-apart-by-last-outstanding (method t) (method-moves t exposures);
   }
 
-pub theorem-3-2 : Theorem-3-2-wherever-ratios-exist
-theorem-3-2 t exist = in-all t exist
+pub theorem-3-2 : Theorem-3-2-where-exposures-are-positive
+theorem-3-2 t exposures = in-all t exposures
 
 pub theorem-3-2-accepted : Theorem-3-2-of-every-accepted-triangle
 theorem-3-2-accepted t f r e = theorem-3-2 t (triangle-of-accepted-answer t f r e .exposure)

@@ -72,14 +72,14 @@ module _ (t : Triangle) where
     -- from the proof of (3.9): with a tail development too, incurred less paid reserve is R(i, n) as projected
     pub gap : (i : ℕ) → AccidentYear (n t) i → unrounded-incurred (method t) i ≈ unrounded-paid (method t) i ⊕ projected-R i (n t)
 
--- Wherever the ratios exist. Proved as `theorem-3-2`.
-abbrev pub RatiosExist : Triangle → Type 0
-RatiosExist t = (k : ℕ) → 1 ≤ k → k < n t → pos 0 <ℤ sums t k .D
+-- Where D(k) is above 0 for each k from 1 to n − 1, whatever else the triangle holds. Proved as `theorem-3-2`.
+abbrev pub ExposuresPositive : Triangle → Type 0
+ExposuresPositive t = (k : ℕ) → 1 ≤ k → k < n t → pos 0 <ℤ sums t k .D
 
-abbrev pub Theorem-3-2-wherever-ratios-exist : Type 0
-Theorem-3-2-wherever-ratios-exist = (t : Triangle) → RatiosExist t → Theorem-3-2 t
+abbrev pub Theorem-3-2-where-exposures-are-positive : Type 0
+Theorem-3-2-where-exposures-are-positive = (t : Triangle) → ExposuresPositive t → Theorem-3-2 t
 
--- They do in every accepted triangle. Proved as `theorem-3-2-accepted`.
+-- So it is in every accepted triangle. Proved as `theorem-3-2-accepted`.
 abbrev pub Theorem-3-2-of-every-accepted-triangle : Type 0
 Theorem-3-2-of-every-accepted-triangle =
     (t : Triangle) (future-room reserves-room : ℕ) → answer t future-room reserves-room .verdict ≡ accepted → Theorem-3-2 t
