@@ -36,6 +36,7 @@
  *
  * The questions are asked in the order of their numbers, each list in its order; the first no decides.
  * The place is the cell (accident_year, development_year).
+ * Every number but 0 is a refusal; a later version may have numbers beyond these.
  *
  *   number  what is wrong                                                            place
  *   0       nothing, the call is accepted                                            (0, 0)
@@ -57,7 +58,8 @@
  *
  * Any numbers and any counts may be passed: the call tests them, and nothing needs to be tested beforehand.
  * Each pointer must be aligned and valid for its count of numbers, for writing as well where the list is written.
- * A count of 0 still wants a pointer that is not null.
+ * Where a count is 0 the pointer may be null: nothing is read or written through it,
+ * which is proved of the engine's source and tested of the compiled library.
  * The two answer lists must not overlap each other or any other list.
  *
  * What a call keeps to
@@ -76,12 +78,56 @@
 extern "C" {
 #endif
 
+/* The version of these declarations. */
+#define JUNIPERPROW_VERSION_MAJOR 0
+#define JUNIPERPROW_VERSION_MINOR 1
+#define JUNIPERPROW_VERSION_PATCH 0
+
 /* The smallest and the largest number of accident years n. */
 #define JUNIPERPROW_SMALLEST_YEARS INT64_C(2)
 #define JUNIPERPROW_LARGEST_YEARS INT64_C(32)
 
 /* One currency unit in millionths. */
 #define JUNIPERPROW_ONE_UNIT INT64_C(1000000)
+
+/*
+ * The lengths of the lists, and where a figure stands in its list, counted from 0.
+ * Years and cells must be such as the list has; nothing is tested here.
+ * With constant arguments each is a constant expression. An argument may be evaluated more than once.
+ */
+#define JUNIPERPROW_AMOUNTS_LENGTH(n) ((n) * ((n) + 1) / 2)
+#define JUNIPERPROW_WEIGHTS_LENGTH(n) ((n) * ((n) - 1) / 2)
+#define JUNIPERPROW_OPENINGS_LENGTH(cut) ((cut) - 1)
+#define JUNIPERPROW_FUTURE_LENGTH(n) (3 * JUNIPERPROW_WEIGHTS_LENGTH(n))
+#define JUNIPERPROW_RESERVES_LENGTH(n) (3 * (n))
+
+/* In payments and adjustments, in weights, and in openings. */
+#define JUNIPERPROW_AMOUNT_AT(n, i, k) (((i) - 1) * (2 * (n) + 2 - (i)) / 2 + (k) - 1)
+#define JUNIPERPROW_WEIGHT_AT(n, i, k) (((i) - 1) * (2 * (n) - (i)) / 2 + (k) - 1)
+#define JUNIPERPROW_OPENING_AT(i) ((i) - 1)
+
+/* In future: where the three numbers of the cell (i, k) start, and which of them is which. */
+#define JUNIPERPROW_FUTURE_AT(n, i, k) (3 * (((i) - 1) * ((i) - 2) / 2 + (k) + (i) - (n) - 2))
+enum { JUNIPERPROW_PAYMENT, JUNIPERPROW_ADJUSTMENT, JUNIPERPROW_OUTSTANDING };
+
+/* In reserves: where the three numbers of accident year i start, and which of them is which. */
+#define JUNIPERPROW_RESERVES_AT(i) (3 * ((i) - 1))
+enum { JUNIPERPROW_PAID_RESERVE, JUNIPERPROW_INCURRED_RESERVE, JUNIPERPROW_CLOSING_OUTSTANDING };
+
+/* The numbers of the questions, as the table of verdicts has them. */
+enum {
+    JUNIPERPROW_ACCEPTED = 0,
+    JUNIPERPROW_QUESTION_NUMBER_OF_YEARS = 1,
+    JUNIPERPROW_QUESTION_CUT = 2,
+    JUNIPERPROW_QUESTION_LIST_LENGTH = 3,
+    JUNIPERPROW_QUESTION_WEIGHT_RANGE = 4,
+    JUNIPERPROW_QUESTION_AMOUNT_RANGE = 5,
+    JUNIPERPROW_QUESTION_OUTSTANDING_RANGE = 6,
+    JUNIPERPROW_QUESTION_WEIGHT_WHERE_MISSING = 7,
+    JUNIPERPROW_QUESTION_EXPOSURE_NOT_POSITIVE = 8,
+    JUNIPERPROW_QUESTION_PROJECTED_FIGURE_TOO_LARGE = 9,
+    JUNIPERPROW_QUESTION_CELL_OR_ACCIDENT_YEAR = 10
+};
 
 /* The number of the question that was answered with no, or 0, and the place. */
 typedef struct {

@@ -35,11 +35,6 @@ pub use triangle::{
     LARGEST_YEARS, ONE_UNIT, SMALLEST_YEARS,
 };
 
-/// The README's example, which `cargo test` compiles and runs.
-#[cfg(doctest)]
-#[doc = include_str!("../../../README.md")]
-struct Readme;
-
 /// The library's own answers, for tests that look at what a refusal leaves.
 #[doc(hidden)]
 pub mod raw {

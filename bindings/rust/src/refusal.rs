@@ -14,7 +14,10 @@ pub struct Place {
 }
 
 /// The question that was answered with no.
+///
+/// Later versions may have more of them, so a `match` wants an arm for any other.
 #[derive(Debug, Clone, Copy, PartialEq, Eq, Hash)]
+#[non_exhaustive]
 pub enum Question {
     /// 1: is the number of accident years from 2 to 32?
     NumberOfYears,
@@ -36,9 +39,11 @@ pub enum Question {
     ProjectedFigureTooLarge,
     /// 10: is the cell an unseen one, or the accident year one of the triangle's?
     CellOrAccidentYear,
+    /// Any other number: a question of a later library, which this version has no name for.
+    Unknown(i64),
 }
 
-/// The questions in the order of their numbers.
+/// The questions that have a name.
 const QUESTIONS: [Question; 10] = [
     Question::NumberOfYears,
     Question::Cut,
@@ -53,9 +58,29 @@ const QUESTIONS: [Question; 10] = [
 ];
 
 impl Question {
-    /// The question's number, from 1 to 10.
+    /// The question's number.
     pub const fn number(self) -> i64 {
-        self as i64 + 1
+        match self {
+            Question::NumberOfYears => 1,
+            Question::Cut => 2,
+            Question::ListLength => 3,
+            Question::WeightRange => 4,
+            Question::AmountRange => 5,
+            Question::OutstandingRange => 6,
+            Question::WeightWhereMissing => 7,
+            Question::ExposureNotPositive => 8,
+            Question::ProjectedFigureTooLarge => 9,
+            Question::CellOrAccidentYear => 10,
+            Question::Unknown(number) => number,
+        }
+    }
+
+    /// The question that has a number.
+    fn of_number(number: i64) -> Question {
+        QUESTIONS
+            .into_iter()
+            .find(|question| question.number() == number)
+            .unwrap_or(Question::Unknown(number))
     }
 }
 
@@ -121,33 +146,28 @@ impl fmt::Display for Refusal {
                 formatter,
                 "the cell is not an unseen cell of the triangle, or the accident year is not one of its years"
             ),
+            Question::Unknown(number) => write!(
+                formatter,
+                "question {number}, which this version has no name for, was answered with no at {place}"
+            ),
         }
     }
 }
 
 impl std::error::Error for Refusal {}
 
-/// A verdict as a result. Panics on a number that no question has.
+/// A verdict as a result.
 pub(crate) fn result(verdict: Verdict) -> Result<(), Refusal> {
     if verdict.number == 0 {
         return Ok(());
     }
-    let question = QUESTIONS
-        .into_iter()
-        .find(|question| question.number() == verdict.number);
-    match question {
-        Some(question) => Err(Refusal {
-            question,
-            place: Place {
-                accident_year: verdict.accident_year,
-                development_year: verdict.development_year,
-            },
-        }),
-        None => panic!(
-            "the library answered the number {}, which is not from 0 to 10",
-            verdict.number
-        ),
-    }
+    Err(Refusal {
+        question: Question::of_number(verdict.number),
+        place: Place {
+            accident_year: verdict.accident_year,
+            development_year: verdict.development_year,
+        },
+    })
 }
 
 #[cfg(test)]
@@ -189,9 +209,17 @@ mod tests {
     }
 
     #[test]
-    #[should_panic(expected = "the library answered the number 11")]
-    fn an_unknown_number_is_not_hidden() {
-        let _ = result(verdict(11, 0, 0));
+    fn an_unknown_number_is_a_refusal_that_keeps_it() {
+        for number in [i64::MIN, -1, 11, i64::MAX] {
+            let refusal = result(verdict(number, 3, 7)).unwrap_err();
+            assert_eq!(refusal.question, Question::Unknown(number));
+            assert_eq!(refusal.question.number(), number);
+            assert_eq!(refusal.place.accident_year, 3);
+        }
+        assert_eq!(
+            sentence(11, 3, 7),
+            "question 11, which this version has no name for, was answered with no at accident year 3, development year 7"
+        );
     }
 
     #[test]

@@ -32,11 +32,11 @@ fn main() -> ExitCode {
     let mut arguments = std::env::args().skip(1);
     let seed = arguments.next().map_or(Some(SEED), |text| number(&text));
     let calls = arguments.next().map_or(Some(CALLS), |text| number(&text));
-    let (Some(seed), Some(calls), None) = (seed, calls, arguments.next()) else {
-        eprintln!("usage: differential [seed] [calls]");
-        return ExitCode::FAILURE;
+    let outcome = match (seed, calls, arguments.next()) {
+        (Some(seed), Some(calls), None) => run(seed, calls),
+        _ => Err("usage: differential [seed] [calls]".to_string()),
     };
-    match run(seed, calls) {
+    match outcome {
         Ok(()) => ExitCode::SUCCESS,
         Err(reason) => {
             println!("{reason}");
@@ -98,7 +98,7 @@ fn compare_part(seed: u64, calls: u64, part: u64) -> (Tally, Option<(u64, Differ
     let mut tally = Tally::new();
     for number in (part..calls).step_by(THREADS as usize) {
         let call = Call::numbered(seed, number);
-        let with_binding = number.is_multiple_of(ROUNDS_FOR_BINDING);
+        let with_binding = number % ROUNDS_FOR_BINDING == 0;
         if let Err(difference) = comparison::compare(&call, with_binding, &mut tally) {
             return (tally, Some((number, difference)));
         }
