@@ -2,4 +2,5 @@
 pub mod KindsOfLines
 pub mod HeadingSearch
 pub mod RowCounts
+pub mod RowLines
 pub mod LineChecks

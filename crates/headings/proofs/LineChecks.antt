@@ -14,7 +14,7 @@ use Rattle.text.specs.Lines.{lines}
 use Rattle.headings.specs.Kinds.{kind-of}
 use Rattle.headings.specs.Places.{line-number}
 use Rattle.headings.specs.Faults.{no-words, words-check, heading-check, line-check, under-after, or-later, fault-after, heading-fault}
-use Rattle.headings.specs.declared.kinds.LineKind.the-variants.{Blank, Payments, Adjustments, Weights, Openings, Cut, Cell, Row, Unknown}
+use Rattle.headings.specs.declared.kinds.LineKind.the-variants.{Blank, Separators, Payments, Adjustments, Weights, Openings, Cut, Cell, Row, Unknown}
 use Rattle.headings.specs.declared.kinds.LineKind.{LineKind}
 use Rattle.headings.specs.declared.faults.Checked.the-variants.{Right, Wrong}
 use Rattle.headings.specs.declared.faults.Checked.{Checked}
@@ -31,20 +31,21 @@ empty-by-length (byte ∷ word) = ne-eqb (suc (length word)) 0 (λ e. omega arit
 -- ---- The kinds that a match leaves to its last arm, by their numbers
 
 abbrev others-with-no-words : List ℕ
-others-with-no-words = 0 ∷ 3 ∷ 4 ∷ 7 ∷ 8 ∷ []
+others-with-no-words = 0 ∷ 1 ∷ 4 ∷ 5 ∷ 8 ∷ 9 ∷ []
 
 abbrev known-headings : List ℕ
-known-headings = 1 ∷ 2 ∷ 3 ∷ 4 ∷ 5 ∷ 6 ∷ []
+known-headings = 2 ∷ 3 ∷ 4 ∷ 5 ∷ 6 ∷ 7 ∷ []
 
 pub other-words : (separator : ℕ) (line : List ℕ) (kind : LineKind) → OneOf others-with-no-words (tagOf the-type kind)
     → no-words separator line ≡ words-check separator line kind
 other-words separator line Blank one = refl
-other-words separator line Payments one = absurd (miss others-with-no-words 1 tt one)
-other-words separator line Adjustments one = absurd (miss others-with-no-words 2 tt one)
+other-words separator line Separators one = refl
+other-words separator line Payments one = absurd (miss others-with-no-words 2 tt one)
+other-words separator line Adjustments one = absurd (miss others-with-no-words 3 tt one)
 other-words separator line Weights one = refl
 other-words separator line Openings one = refl
-other-words separator line Cut one = absurd (miss others-with-no-words 5 tt one)
-other-words separator line Cell one = absurd (miss others-with-no-words 6 tt one)
+other-words separator line Cut one = absurd (miss others-with-no-words 6 tt one)
+other-words separator line Cell one = absurd (miss others-with-no-words 7 tt one)
 other-words separator line Row one = refl
 other-words separator line Unknown one = refl
 
@@ -52,14 +53,15 @@ module _ (separator : ℕ) (all : List (List ℕ)) (number : ℕ) (under : LineK
   known-heading : (kind : LineKind) → OneOf known-headings (tagOf the-type kind)
       → heading-check separator all number under line kind ≡ line-check separator all number under line kind
   known-heading Blank one = absurd (miss known-headings 0 tt one)
+  known-heading Separators one = absurd (miss known-headings 1 tt one)
   known-heading Payments one = refl
   known-heading Adjustments one = refl
   known-heading Weights one = refl
   known-heading Openings one = refl
   known-heading Cut one = refl
   known-heading Cell one = refl
-  known-heading Row one = absurd (miss known-headings 7 tt one)
-  known-heading Unknown one = absurd (miss known-headings 8 tt one)
+  known-heading Row one = absurd (miss known-headings 8 tt one)
+  known-heading Unknown one = absurd (miss known-headings 9 tt one)
 
   module _ (kind : LineKind) (one : OneOf known-headings (tagOf the-type kind)) (found : ℕ) (is : found ≡ line-number separator kind all) where
     pub first-of-its-kind : found ≡ number → words-check separator line kind ≡ line-check separator all number under line kind

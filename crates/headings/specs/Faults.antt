@@ -1,5 +1,5 @@
 -- The first fault of the headings of a text, and of rows that stand under none. docs/FORMAT.md has the table of them.
-use mathlib.Core.Bool.{Bool, true, false, _&&_, _||_, cond}
+use mathlib.Core.Bool.{Bool, true, false, not, _&&_, _||_, cond}
 use mathlib.Core.List.{List, [], _∷_}
 use Prim.Native.Nat.{ℕ, suc}
 use lib.Dec.{eqb}
@@ -10,11 +10,11 @@ use Rattle.figures.specs.declared.reading.Figure as figures
 use Rattle.text.specs.Cells.{is-empty}
 use Rattle.text.specs.Words.{word, is-word}
 use Rattle.headings.specs.Kinds.{kind-of, is-heading, has-rows}
-use Rattle.headings.specs.Places.{line-number}
+use Rattle.headings.specs.Places.{line-number, says-cumulated}
 use Rattle.headings.specs.declared.kinds.LineKind.{LineKind}
-use Rattle.headings.specs.declared.kinds.LineKind.the-variants.{Blank, Payments, Adjustments, Weights, Openings, Cut, Cell, Row, Unknown}
+use Rattle.headings.specs.declared.kinds.LineKind.the-variants.{Blank, Separators, Payments, Adjustments, Weights, Openings, Cut, Cell, Row, Unknown}
 use Rattle.headings.specs.declared.faults.HeadingFault.{HeadingFault}
-use Rattle.headings.specs.declared.faults.HeadingFault.the-variants.{HeadingBeforeRow, KnownHeading, HeadingOnce, CumulatedOrNothing, NothingAfterHeading, NumberAfterCut, YearsAfterCell}
+use Rattle.headings.specs.declared.faults.HeadingFault.the-variants.{HeadingBeforeRow, FiguresInRow, KnownHeading, HeadingOnce, CumulatedOrIncremental, NothingAfterHeading, NumberAfterCut, YearsAfterCell}
 use Rattle.headings.specs.declared.faults.Checked.{Checked}
 use Rattle.headings.specs.declared.faults.Checked.the-variants.{Right, Wrong}
 use Rattle.headings.specs.declared.faults.FirstFault.{FirstFault}
@@ -40,11 +40,11 @@ module _ (separator : ℕ) (line : List ℕ) where
   is-no-word number = is-empty (word separator number line)
 
   unfoldable pub says-how : Bool
-  says-how = (is-word (word separator 1 line) (bytes "cumulated") || is-word (word separator 1 line) (bytes "incremental")) && is-no-word 2
+  says-how = (says-cumulated (word separator 1 line) || is-word (word separator 1 line) (bytes "incremental")) && is-no-word 2
 
   -- after amounts, the cut, a single cell, and weights or openings
   unfoldable pub amount-words : Checked
-  amount-words = check (is-no-word 1 || says-how) CumulatedOrNothing
+  amount-words = check says-how CumulatedOrIncremental
 
   unfoldable pub cut-words : Checked
   cut-words = check (is-number 1 && is-no-word 2) NumberAfterCut
@@ -57,6 +57,7 @@ module _ (separator : ℕ) (line : List ℕ) where
 
   abbrev pub words-check : LineKind → Checked
   words-check Blank = no-words
+  words-check Separators = no-words
   words-check Payments = amount-words
   words-check Adjustments = amount-words
   words-check Weights = no-words
@@ -75,6 +76,7 @@ module _ (separator : ℕ) (all : List (List ℕ)) (number : ℕ) (under : LineK
 
   abbrev pub line-check : LineKind → Checked
   line-check Blank = Right
+  line-check Separators = check (not (has-rows under)) FiguresInRow
   line-check Payments = heading-check Payments
   line-check Adjustments = heading-check Adjustments
   line-check Weights = heading-check Weights

@@ -1,8 +1,9 @@
 -- Where a heading stands among the lines of a text, and what it says.
 use mathlib.Core.Path.{_≡_}
-use mathlib.Core.Bool.{Bool, cond}
+use mathlib.Core.Bool.{Bool, _&&_, cond}
 use mathlib.Core.List.{List, [], _∷_}
-use Prim.Native.Nat.{ℕ, suc, _≤_}
+use Prim.Native.Nat.{ℕ, suc, _-_, _≤_}
+use lib.Dec.{leb}
 use lib.IntN.{ℤ}
 use lib.ListN.{length, drop}
 use Rattle.figures.specs.Bytes.{bytes}
@@ -10,8 +11,8 @@ use Rattle.figures.specs.Reading.{figure-of}
 use Rattle.figures.specs.declared.reading.Figure.{Figure}
 use Rattle.figures.specs.declared.reading.Figure.the-variants.{Blank, Whole, TooLarge, NotWhole}
 use Rattle.text.specs.Lines.{lines, first-of, others-of}
-use Rattle.text.specs.Words.{word, is-word}
-use Rattle.headings.specs.Kinds.{kind-of, same-kind}
+use Rattle.text.specs.Words.{word}
+use Rattle.headings.specs.Kinds.{is-either, kind-of, is-heading, same-kind}
 use Rattle.headings.specs.declared.kinds.LineKind as kinds
 use Rattle.headings.specs.declared.kinds.LineKind.{LineKind}
 use Rattle.headings.specs.declared.places.Heading.{Heading}
@@ -52,6 +53,7 @@ pub record HeadingFound (text : List ℕ) (separator : ℕ) (heading : LineKind)
 -- rows before the next heading, with a line of this kind before them
 abbrev pub counted : LineKind → ℕ → ℕ
 counted kinds.the-variants.Blank rows = rows
+counted kinds.the-variants.Separators rows = rows
 counted kinds.the-variants.Payments rows = 0
 counted kinds.the-variants.Adjustments rows = 0
 counted kinds.the-variants.Weights rows = 0
@@ -76,5 +78,27 @@ whole-or other NotWhole = other
 unfoldable pub number-after : ℕ → LineKind → ℕ → ℤ → List (List ℕ) → ℤ
 number-after separator heading number other lines = whole-or other (figure-of (word separator number (heading-line separator heading lines)))
 
+-- The two names of cumulated figures.
+abbrev pub says-cumulated : List ℕ → Bool
+says-cumulated name = is-either name (bytes "cumulated") (bytes "cumulative")
+
 unfoldable pub is-cumulated : ℕ → LineKind → List (List ℕ) → Bool
-is-cumulated separator heading lines = is-word (word separator 1 (heading-line separator heading lines)) (bytes "cumulated")
+is-cumulated separator heading lines = says-cumulated (word separator 1 (heading-line separator heading lines))
+
+-- ---- Where a row stands
+
+-- the number of the row sought, after a line that is a row or not
+abbrev pub left-after : Bool → ℕ → ℕ
+left-after row left = cond row (left - 1) left
+
+-- the number of the line of a row, after so many lines and up to the next heading; 0 where there are fewer rows
+unfoldable pub row-line-after : ℕ → ℕ → ℕ → List (List ℕ) → ℕ
+row-line-after separator number left [] = 0
+row-line-after separator number left (line ∷ lines) =
+    let row : Bool = same-kind (kind-of separator line) kinds.the-variants.Row in
+    cond (is-heading (kind-of separator line)) 0
+    (cond (row && leb left 1) (suc number) (row-line-after separator (suc number) (left-after row left) lines))
+
+-- The number of the line of a row under a heading, both counted from 1; 0 where there are fewer rows.
+abbrev pub row-line : ℕ → LineKind → ℕ → List (List ℕ) → ℕ
+row-line separator heading row lines = row-line-after separator (line-number separator heading lines) row (lines-under separator heading lines)

@@ -1,7 +1,5 @@
 // The first fault of the headings of a text, and of rows that stand under none.
 ghost use mathlib.Core.Path.{_≡_};
-ghost use lib.ListN.{length};
-ghost use Prim.Native.Nat.{_≤_};
 ghost use Rattle.text.specs.Lines.{lines};
 ghost use Rattle.headings.specs.Faults as meaning;
 use crate::kinds::LineKind;
@@ -9,6 +7,7 @@ use crate::kinds::has_rows;
 use crate::kinds::is_heading;
 use crate::kinds::kind_of;
 use crate::places::find_heading;
+use crate::places::says_cumulated;
 use figures::reading::Figure;
 use figures::reading::figure_of;
 use text::lines::first_line;
@@ -19,9 +18,10 @@ use text::words::word;
 // What was expected at a line.
 pub enum HeadingFault {
     HeadingBeforeRow,
+    FiguresInRow,
     KnownHeading,
     HeadingOnce,
-    CumulatedOrNothing,
+    CumulatedOrIncremental,
     NothingAfterHeading,
     NumberAfterCut,
     YearsAfterCell,
@@ -88,6 +88,7 @@ fn check_line<'a>(
 {
     match kind {
         LineKind::Blank => Checked::Right,
+        LineKind::Separators => check(!has_rows(under), HeadingFault::FiguresInRow),
         LineKind::Row => check(has_rows(under), HeadingFault::HeadingBeforeRow),
         LineKind::Unknown => Checked::Wrong(HeadingFault::KnownHeading),
         _ => {
@@ -128,8 +129,8 @@ fn amount_words(line: &[u8], separator: u8) -> Checked
     ensures { λ r. ⌜ r ≡ meaning.amount-words separator (now (line .entry)) ⌝ }
 {
     check(
-        is_no_word(line, separator, 1) | says_how(line, separator),
-        HeadingFault::CumulatedOrNothing,
+        says_how(line, separator),
+        HeadingFault::CumulatedOrIncremental,
     )
 }
 
@@ -166,7 +167,7 @@ fn says_how(line: &[u8], separator: u8) -> bool
     ensures { λ r. ⌜ r ≡ meaning.says-how separator (now (line .entry)) ⌝ }
 {
     let how = word(line, separator, 1);
-    (is_word(how, b"cumulated") | is_word(how, b"incremental")) & is_no_word(line, separator, 2)
+    (says_cumulated(how) | is_word(how, b"incremental")) & is_no_word(line, separator, 2)
 }
 
 fn is_no_word(line: &[u8], separator: u8, number: usize) -> bool

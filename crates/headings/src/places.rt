@@ -3,8 +3,10 @@ ghost use mathlib.Core.Path.{_≡_};
 ghost use Prim.Native.Nat.{_≤_};
 ghost use lib.ListN.{length, drop};
 ghost use Rattle.text.specs.Lines.{lines};
-ghost use Rattle.headings.specs.Places.{HeadingFound, rows-in, number-after, is-cumulated};
+ghost use Rattle.headings.specs.Places.{HeadingFound, rows-in, number-after, is-cumulated, says-cumulated, row-line, row-line-after};
+ghost use Rattle.headings.specs.Places as meaning;
 use crate::kinds::LineKind;
+use crate::kinds::is_either;
 use crate::kinds::is_heading;
 use crate::kinds::kind_of;
 use crate::kinds::same_kind;
@@ -12,7 +14,6 @@ use figures::reading::Figure;
 use figures::reading::figure_of;
 use text::lines::first_line;
 use text::lines::first_line_length;
-use text::words::is_word;
 use text::words::word;
 
 // The number of a heading's line, counted from 1, and the places where it and the next line start.
@@ -90,5 +91,52 @@ pub fn is_cumulated(text: &[u8], separator: u8, heading: LineKind) -> bool
 {
     let found = find_heading(text, separator, heading);
     let start = found.start;
-    is_word(word(first_line(&text[start..]), separator, 1), b"cumulated")
+    says_cumulated(word(first_line(&text[start..]), separator, 1))
+}
+
+pub(crate) fn says_cumulated(word: &[u8]) -> bool
+    ensures { λ r. ⌜ r ≡ says-cumulated (now (word .entry)) ⌝ }
+{
+    is_either(word, b"cumulated", b"cumulative")
+}
+
+// The number of the line of a row under a heading, both counted from 1; 0 where there are fewer rows.
+pub fn row_line(text: &[u8], separator: u8, heading: LineKind, row: usize) -> usize
+    ensures { λ r. ⌜ r ≡ row-line separator heading row (lines (now (text .entry))) ⌝ }
+{
+    let found = find_heading(text, separator, heading);
+    row_line_from(text, separator, found.rows, found.line, row)
+}
+
+// The same of the lines from a place on, which come after so many lines.
+fn row_line_from(text: &[u8], separator: u8, from: usize, number: usize, row: usize) -> usize
+    requires { ⌜ (from ≤ length (now text)) × (number ≤ from) ⌝ }
+    ensures { λ r. ⌜ r ≡ row-line-after separator number row (lines (drop from (now (text .entry)))) ⌝ }
+{
+    let mut left = row;
+    let mut line = number;
+    let mut start = from;
+    while start < text.len() {
+        let kind = kind_of(first_line(&text[start..]), separator);
+        line += 1;
+        if is_heading(kind) {
+            return 0;
+        }
+        let row_here = same_kind(kind, LineKind::Row);
+        if row_here & (left <= 1) {
+            return line;
+        }
+        left = left_after(row_here, left);
+        start += first_line_length(&text[start..]);
+    }
+    0
+}
+
+fn left_after(row: bool, left: usize) -> usize
+    ensures { λ r. ⌜ r ≡ meaning.left-after row left ⌝ }
+{
+    if left == 0 {
+        return 0;
+    }
+    if row { left - 1 } else { left }
 }

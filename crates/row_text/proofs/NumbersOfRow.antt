@@ -8,8 +8,7 @@ use lib.Dec.{ltb}
 use lib.IntN.{ℤ}
 use lib.ListN.{length}
 use Rattle.figures.specs.Reading.{figure-of}
-use Rattle.text.specs.Cells.{first-cell, after-cell}
-use Rattle.text.specs.Words.{from-word}
+use Rattle.text.specs.Cells.{first-cell, after-cell, from-content}
 use Rattle.row_text.specs.Entries.{entry-of}
 use Rattle.row_text.specs.Rows.{RowNumbers, after-entry, ended, numbers-from, row-read, RowReadAs}
 use Rattle.row_text.specs.declared.entries.Entry.{Entry}
@@ -32,7 +31,7 @@ module _ (separator missing : ℕ) (cumulated : Bool) where
       ∙ ap (λ (e : Entry). after-entry cells e (λ next. numbers-left count (suc cells) next (after-cell separator rest))) (sym here)
 
   no-number-follows : (count cells : ℕ) (figure : ℤ) (rest : List ℕ) → count ≤ cells
-      → numbers-left count cells figure rest ≡ ended separator cells rest (from-word separator rest)
+      → numbers-left count cells figure rest ≡ ended separator cells rest (from-content separator rest)
   unfolding numbers-from
   no-number-follows count cells figure rest none =
       let no-more : count - cells ≡ 0 = omega arith in
@@ -41,9 +40,9 @@ module _ (separator missing : ℕ) (cumulated : Bool) where
   -- the answer after the last number
   pub row-ended : {meaning : RowNumbers} {line : List ℕ} {before after : List ℤ} {start cells : ℕ} {r : RowRead} (figure : ℤ) (rest : List ℕ)
       → ReadSoFar meaning line before after start cells (numbers-left (length before) cells figure rest) → length after ≤ cells
-      → r ≡ row-read (ended separator cells rest (from-word separator rest)) → RowReadAs meaning r after
+      → r ≡ row-read (ended separator cells rest (from-content separator rest)) → RowReadAs meaning r after
   row-ended {meaning} {line} {before} {after} {start} {cells} {r} figure rest s full is =
-      go (from-word separator rest) (no-number-follows (length before) cells figure rest (omega (arith, s .same-length))) is
+      go (from-content separator rest) (no-number-follows (length before) cells figure rest (omega (arith, s .same-length))) is
     where
       go : (others : List ℕ) → numbers-left (length before) cells figure rest ≡ ended separator cells rest others
           → r ≡ row-read (ended separator cells rest others) → RowReadAs meaning r after

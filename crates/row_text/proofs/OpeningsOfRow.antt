@@ -9,8 +9,7 @@ use lib.IntN.{pos}
 use lib.ListN.{length, drop, drop-of-length-le}
 use lib.Seq.{drop-cons}
 use Rattle.figures.specs.Reading.{figure-of}
-use Rattle.text.specs.Cells.{first-cell, after-cell}
-use Rattle.text.specs.Words.{from-word}
+use Rattle.text.specs.Cells.{first-cell, after-cell, from-content}
 use Rattle.row_text.specs.Entries.{entry-of}
 use Rattle.row_text.specs.Rows.{RowNumbers, numbers, wrong, after-entry, openings-from}
 use Rattle.row_text.specs.declared.entries.CellFault.the-variants.{NoFurtherOpening}
@@ -22,12 +21,12 @@ module _ (separator : ℕ) where
   openings-left room cells rest = openings-from separator (room - cells) cells rest
 
   -- a search past spaces and separators has found where the rest of the line goes on
-  module _ (room cells : ℕ) (line rest : List ℕ) (found : ℕ) (is : drop found line ≡ from-word separator rest) where
+  module _ (room cells : ℕ) (line rest : List ℕ) (found : ℕ) (is : drop found line ≡ from-content separator rest) where
     pub nothing-follows : length line ≤ found → openings-left room cells rest ≡ numbers []
     unfolding openings-from
     nothing-follows h = go (room - cells) (sym is ∙ drop-of-length-le line h)
       where
-        go : (left : ℕ) → from-word separator rest ≡ [] → openings-from separator left cells rest ≡ numbers []
+        go : (left : ℕ) → from-content separator rest ≡ [] → openings-from separator left cells rest ≡ numbers []
         go zero nothing = rw nothing
         go (suc left) nothing = rw nothing
 

@@ -10,8 +10,7 @@ use Rattle.figures.specs.Reading.{figure-of}
 use Rattle.text.specs.Bytes.{longest-text}
 use Rattle.text.specs.Search.{before}
 use Rattle.text.specs.declared.search.Sought.the-variants.{NeitherSpaceNor}
-use Rattle.text.specs.Cells.{first-cell, after-cell}
-use Rattle.text.specs.Words.{from-word}
+use Rattle.text.specs.Cells.{first-cell, after-cell, from-content}
 use Rattle.row_text.specs.Entries.{entry-of}
 use Rattle.row_text.specs.declared.entries.CellFault.{CellFault}
 use Rattle.row_text.specs.declared.entries.CellFault.the-variants.{RowEnd, NoFurtherOpening}
@@ -51,7 +50,7 @@ module _ (separator : ℕ) where
 
   -- so many numbers of what is left of a line, after so many cells and a figure; of all cells some are missing
   unfoldable pub numbers-from : ℕ → Bool → ℕ → ℕ → ℤ → List ℕ → RowNumbers
-  numbers-from missing cumulated zero cells figure rest = ended cells rest (from-word separator rest)
+  numbers-from missing cumulated zero cells figure rest = ended cells rest (from-content separator rest)
   numbers-from missing cumulated (suc left) cells figure rest =
       after-entry cells (entry-of (figure-of (first-cell separator rest)) (ltb cells missing) cumulated figure)
       (λ next. numbers-from missing cumulated left (suc cells) next (after-cell separator rest))
@@ -69,9 +68,9 @@ module _ (separator : ℕ) where
 
   -- at most so many openings of what is left of a line, after so many cells
   unfoldable pub openings-from : ℕ → ℕ → List ℕ → RowNumbers
-  openings-from zero cells rest = unless-blank (from-word separator rest) (wrong (suc cells) NoFurtherOpening)
+  openings-from zero cells rest = unless-blank (from-content separator rest) (wrong (suc cells) NoFurtherOpening)
   openings-from (suc room) cells rest =
-      unless-blank (from-word separator rest)
+      unless-blank (from-content separator rest)
       (after-entry cells (entry-of (figure-of (first-cell separator rest)) false false (pos 0))
       (λ next. openings-from room (suc cells) (after-cell separator rest)))
 

@@ -3,7 +3,7 @@ ghost use mathlib.Core.Path.{_≡_};
 ghost use Prim.Native.Nat.{_≤_};
 ghost use lib.ListN.{length};
 ghost use Rattle.text.specs.Bytes.{longest-text};
-ghost use Rattle.text.specs.Words.{from-word};
+ghost use Rattle.text.specs.Cells.{from-content};
 ghost use Rattle.row_text.specs.Rows.{row-numbers, row-read, entry-read, ended, occurrences, RowInput, RowReadAs};
 use crate::entries::CellFault;
 use crate::entries::Entry;
@@ -62,7 +62,7 @@ pub(crate) fn wrong_cell(cell: usize, entry: Entry) -> RowRead
 // The row has ended after so many cells, and nothing but blank cells may follow.
 fn row_end(rest: &[u8], separator: u8, cells: usize) -> RowRead
     requires { ⌜ (cells ≤ 32) × (length (now rest) ≤ longest-text) ⌝ }
-    ensures { λ r. ⌜ r ≡ row-read (ended separator cells (now (rest .entry)) (from-word separator (now (rest .entry)))) ⌝ }
+    ensures { λ r. ⌜ r ≡ row-read (ended separator cells (now (rest .entry)) (from-content separator (now (rest .entry)))) ⌝ }
 {
     let at = find(rest, Sought::NeitherSpaceNor(separator));
     if at == rest.len() {

@@ -9,11 +9,11 @@ use borrow.Author.Tests.{eq-eqb, ne-eqb}
 use lib.Dec.{eqb}
 use lib.ListN.{length, getD, take, drop, length-take}
 use lib.Seq.{take-all, take-take}
-use Rattle.text.specs.Bytes.{line-feed, carriage-return, number-sign}
+use Rattle.text.specs.Bytes.{line-feed, carriage-return}
 use Rattle.text.specs.Search.{before, from}
-use Rattle.text.specs.Lines.{first-of, others-of, with-byte, line-feed-follows, whole-lines, without-comment, lines}
+use Rattle.text.specs.Lines.{first-of, others-of, with-byte, line-feed-follows, whole-lines, before-comment, without-comment, lines}
 use Rattle.text.specs.declared.search.Sought.the-variants.{Byte}
-use Rattle.text.proofs.Searches.{before-within, found-within, part-before-found}
+use Rattle.text.proofs.Comments.{before-comment-within, take-before-comment}
 
 -- the place of the first line feed
 abbrev pub line-end : List ℕ → ℕ
@@ -145,7 +145,7 @@ module _ (text : List ℕ) (end : ℕ) (is : end ≡ line-end text) where
 -- ---- Comments
 
 first-of-map : (all : List (List ℕ)) → without-comment (first-of all) ≡ first-of (map without-comment all)
-unfolding before
+unfolding before-comment
 first-of-map [] = refl
 first-of-map (line ∷ others) = refl
 
@@ -169,20 +169,20 @@ first-line-short text =
     omega (
       arith,
       ap length (first-of-map (whole-lines text)),
-      before-within (Byte number-sign) (first-of (whole-lines text)),
+      before-comment-within true (first-of (whole-lines text)),
       first-whole-line-short text,
     )
 
 -- ---- Where the comment begins
 
--- what a search for the first number sign in the first line tells
+-- what the place of the comment in the first line tells
 module _ (text : List ℕ) (end comment : ℕ) (within : end ≤ length text) (ends : take end text ≡ first-of (whole-lines text))
     (is : comment ≡ length (without-comment (take (end - 0) text))) where
   in-line : comment ≡ length (without-comment (take end text))
   in-line = is ∙ ap (λ n. length (without-comment (take n text))) (sub-zero end)
 
   inside-line : comment ≤ end
-  inside-line = omega (arith, found-within (Byte number-sign) (take end text) comment in-line, length-take end text)
+  inside-line = omega (arith, in-line, before-comment-within true (take end text), length-take end text)
 
   pub comment-within : comment ≤ length text
   comment-within = omega (arith, inside-line)
@@ -191,6 +191,7 @@ module _ (text : List ℕ) (end comment : ℕ) (within : end ≤ length text) (e
   unfolding lines
   part-before-comment =
       sym (take-take (comment - 0) end text (omega (arith, inside-line)))
-      ∙ part-before-found (Byte number-sign) (take end text) comment in-line
+      ∙ ap (λ n. take n (take end text)) (sub-zero comment ∙ in-line)
+      ∙ take-before-comment true (take end text)
       ∙ ap without-comment ends
       ∙ first-of-map (whole-lines text)

@@ -1,5 +1,6 @@
--- The laws of texts: what a search finds, where lines end and how they follow, separators, cells, words and fields.
+-- The laws of texts: what a search finds, where comments begin, where lines end and how they follow, separators, cells, words and fields.
 pub mod Searches
+pub mod Comments
 pub mod FirstLines
 pub mod LinesOfText
 pub mod Separators

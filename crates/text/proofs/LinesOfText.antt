@@ -2,13 +2,13 @@
 use mathlib.Core.Path.{_≡_, refl, sym, ap, _∙_}
 use mathlib.Core.Bool.{Bool, true, false, _&&_, cond, and-false}
 use mathlib.Core.List.{List, [], _∷_, map}
-use Prim.Native.Nat.{ℕ, suc, _+_, _-_, _≤_, _<_}
+use Prim.Native.Nat.{ℕ, zero, suc, _+_, _-_, _≤_, _<_}
 use native.Mathlib.Omega.{arith}
 use lib.Dec.{eqb}
 use lib.ListN.{length, getD, take, drop, drop-of-length-le, length-drop}
 use lib.Seq.{drop-cons, drop-drop}
 use Rattle.text.specs.Bytes.{line-feed, carriage-return}
-use Rattle.text.specs.Lines.{first-of, others-of, with-byte, line-feed-follows, whole-lines, without-comment, lines, AfterLine}
+use Rattle.text.specs.Lines.{first-of, others-of, with-byte, line-feed-follows, whole-lines, without-comment, lines, line-of, AfterLine}
 use Rattle.text.proofs.Searches.{whole-rest}
 
 -- ---- Some line
@@ -74,3 +74,34 @@ module _ (text : List ℕ) (start : ℕ) (line : List ℕ) (is : line ≡ first-
           within = omega (arith, rest .within);
           further = omega (arith, rest .further (omega arith));
         }
+
+-- ---- A line by its number
+
+pub line-of-first : (number : ℕ) (all : List (List ℕ)) → number ≤ 1 → first-of all ≡ line-of number all
+line-of-first number all few =
+    let none : number - 1 ≡ 0 = omega arith in
+    ap (λ before. first-of (drop before all)) (sym none)
+
+pub line-of-others : (number : ℕ) (all : List (List ℕ)) → 1 < number → line-of (number - 1) (others-of all) ≡ line-of number all
+line-of-others number all more =
+    let one-more : number - 1 ≡ suc (number - 1 - 1) = omega arith in
+    go (number - 1 - 1) all ∙ ap (λ before. first-of (drop before all)) (sym one-more)
+  where
+    go : (before : ℕ) (all : List (List ℕ)) → first-of (drop before (others-of all)) ≡ first-of (drop (suc before) all)
+    go zero [] = refl
+    go (suc before) [] = refl
+    go before (line ∷ others) = refl
+
+-- how the search for a line goes on after so many bytes more
+module _ (text : List ℕ) (start left size : ℕ) (within : start ≤ length text)
+    (after : AfterLine (take (length text - start) (drop start text)) size) where
+  rest-after : AfterLine (drop start text) size
+  rest-after = rw (whole-rest text start within) at after
+
+  pub passed-within : start + size ≤ length text
+  passed-within = omega (arith, rest-after .within, length-drop start text)
+
+  pub line-passed : 1 < left → line-of (left - 1) (lines (drop (start + size) text)) ≡ line-of left (lines (drop start text))
+  line-passed more =
+      ap (line-of (left - 1)) (ap lines (sym (drop-drop size start text)) ∙ rest-after .others)
+      ∙ line-of-others left (lines (drop start text)) more

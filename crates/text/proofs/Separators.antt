@@ -1,31 +1,28 @@
--- The separator of a text, sought byte by byte.
-use mathlib.Core.Path.{_≡_, sym, ap}
-use mathlib.Core.Bool.{Bool, true, false, not, _&&_, cond}
-use mathlib.Core.List.{List}
-use Prim.Native.Nat.{ℕ, _+_, _≤_, _<_}
-use native.Mathlib.Numerals.{add-one}
+-- The separator of a text, sought line by line.
+use mathlib.Core.Path.{_≡_, sym, ap, _∙_}
+use mathlib.Core.List.{List, _∷_}
+use Prim.Native.Nat.{ℕ, _≤_, _<_}
 use lib.ListN.{length, getD, drop, drop-of-length-le}
 use lib.Seq.{drop-cons}
 use Rattle.text.specs.Bytes.{comma}
-use Rattle.text.specs.Cells.{in-comment, is-separator, separator-after}
+use Rattle.text.specs.Search.{before}
+use Rattle.text.specs.Lines.{lines}
+use Rattle.text.specs.Cells.{first-byte-or, separator-in}
+use Rattle.text.specs.declared.search.Sought.the-variants.{Separator}
+use Rattle.text.proofs.Searches.{from-found}
+use Rattle.text.proofs.LinesOfText.{no-lines}
 
--- whether a byte is the separator of its text, after a byte in a comment or not
-abbrev pub separates : Bool → ℕ → Bool
-separates comment byte = is-separator byte && not (in-comment comment byte)
+module _ (line : List ℕ) (others : List (List ℕ)) (at : ℕ) (is : at ≡ length (before Separator line)) where
+  by-place : separator-in (line ∷ others) ≡ first-byte-or (separator-in others) (drop at line)
+  unfolding separator-in
+  by-place = ap (first-byte-or (separator-in others)) (sym (from-found Separator line at is))
 
-module _ (comment : Bool) (text : List ℕ) (at : ℕ) (within : at < length text) where
-  next-separator : let byte = getD text at 0 in
-      separator-after comment (drop at text) ≡ cond (separates comment byte) byte (separator-after (in-comment comment byte) (drop (at + 1) text))
-  unfolding separator-after
-  next-separator = rw add-one (ap (separator-after comment) (drop-cons text at 0 within))
+  pub separator-here : at < length line → getD line at 0 ≡ separator-in (line ∷ others)
+  separator-here within = sym (by-place ∙ ap (first-byte-or (separator-in others)) (drop-cons line at 0 within))
 
-  pub separator-here : separates comment (getD text at 0) ≡ true → getD text at 0 ≡ separator-after comment (drop at text)
-  separator-here e = sym (rw e at next-separator)
+  pub separator-later : length line ≤ at → separator-in others ≡ separator-in (line ∷ others)
+  separator-later none = sym (by-place ∙ ap (first-byte-or (separator-in others)) (drop-of-length-le line none))
 
-  pub separator-later : separates comment (getD text at 0) ≡ false
-      → separator-after (in-comment comment (getD text at 0)) (drop (at + 1) text) ≡ separator-after comment (drop at text)
-  separator-later e = sym (rw e at next-separator)
-
-pub no-separator : (comment : Bool) (text : List ℕ) (at : ℕ) → length text ≤ at → comma ≡ separator-after comment (drop at text)
-unfolding separator-after
-no-separator comment text at h = rw (drop-of-length-le text h)
+pub no-separator : (text : List ℕ) (start : ℕ) → length text ≤ start → comma ≡ separator-in (lines (drop start text))
+unfolding separator-in
+no-separator text start ended = sym (ap separator-in (no-lines text start ended))

@@ -12,7 +12,7 @@ use lib.Seq.{drop-cons}
 use Rattle.text.specs.Bytes.{small}
 use Rattle.text.specs.Search.{before, from}
 use Rattle.text.specs.Words.{from-word, word, is-word}
-use Rattle.text.specs.declared.search.Sought.the-variants.{SpaceOr, NeitherSpaceNor}
+use Rattle.text.specs.declared.search.Sought.the-variants.{WordEnd, WordStart}
 use Rattle.text.proofs.Searches.{from-from}
 
 -- ---- The words of a line
@@ -20,22 +20,22 @@ use Rattle.text.proofs.Searches.{from-from}
 module _ (separator : ℕ) where
   pub word-from-word : (number : ℕ) (line : List ℕ) → word separator number (from-word separator line) ≡ word separator number line
   unfolding word
-  word-from-word zero line = ap (before (SpaceOr separator)) (from-from (NeitherSpaceNor separator) line)
-  word-from-word (suc number) line = ap (λ rest. word separator number (from (SpaceOr separator) rest)) (from-from (NeitherSpaceNor separator) line)
+  word-from-word zero line = ap (before (WordEnd separator)) (from-from (WordStart separator) line)
+  word-from-word (suc number) line = ap (λ rest. word separator number (from (WordEnd separator) rest)) (from-from (WordStart separator) line)
 
   -- the line begins with a word
   module _ (line : List ℕ) (begins : from-word separator line ≡ line) where
     pub next-word : (number : ℕ) → 0 < number
-        → word separator (number - 1) (from-word separator (from (SpaceOr separator) line)) ≡ word separator number line
+        → word separator (number - 1) (from-word separator (from (WordEnd separator) line)) ≡ word separator number line
     unfolding word
     next-word zero l = absurd (omega arith)
     next-word (suc number) l =
         let one-less : suc number - 1 ≡ number = omega arith in
-        rw one-less (word-from-word number (from (SpaceOr separator) line) ∙ ap (λ rest. word separator number (from (SpaceOr separator) rest)) (sym begins))
+        rw one-less (word-from-word number (from (WordEnd separator) line) ∙ ap (λ rest. word separator number (from (WordEnd separator) rest)) (sym begins))
 
-    pub first-word : (number : ℕ) → number ≤ 0 → before (SpaceOr separator) line ≡ word separator number line
+    pub first-word : (number : ℕ) → number ≤ 0 → before (WordEnd separator) line ≡ word separator number line
     unfolding word
-    first-word zero l = ap (before (SpaceOr separator)) (sym begins)
+    first-word zero l = ap (before (WordEnd separator)) (sym begins)
     first-word (suc number) l = absurd (omega arith)
 
 -- ---- A word and a name

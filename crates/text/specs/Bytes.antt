@@ -23,6 +23,9 @@ space = code " "
 abbrev pub number-sign : ℕ
 number-sign = code "#"
 
+abbrev pub double-quote : ℕ
+double-quote = 34
+
 abbrev pub comma : ℕ
 comma = code ","
 

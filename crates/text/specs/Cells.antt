@@ -1,32 +1,27 @@
 -- The cells of a line, without the spaces around them, and the byte that separates them.
-use mathlib.Core.Bool.{Bool, true, false, not, _&&_, _||_, cond}
+use mathlib.Core.Bool.{Bool, true, false, _&&_, cond}
 use mathlib.Core.List.{List, [], _∷_}
-use Prim.Native.Nat.{ℕ, zero, suc}
+use Prim.Native.Nat.{ℕ, zero, suc, _-_}
 use lib.Dec.{eqb}
 use lib.ListN.{drop}
-use Rattle.text.specs.Bytes.{tab, line-feed, space, number-sign, comma, semicolon}
+use Rattle.text.specs.Bytes.{space, comma}
 use Rattle.text.specs.Search.{before, from}
-use Rattle.text.specs.declared.search.Sought.the-variants.{Byte, NotSpace}
+use Rattle.text.specs.Lines.{lines}
+use Rattle.text.specs.declared.search.Sought.the-variants.{Byte, Separator, NotSpace, NeitherSpaceNor}
 
 -- ---- The separator
 
--- whether a byte stands in a comment, after one that does or does not
-abbrev pub in-comment : Bool → ℕ → Bool
-in-comment true byte = not (eqb byte line-feed)
-in-comment false byte = eqb byte number-sign
+abbrev pub first-byte-or : ℕ → List ℕ → ℕ
+first-byte-or other [] = other
+first-byte-or other (byte ∷ text) = byte
 
-abbrev pub is-separator : ℕ → Bool
-is-separator byte = eqb byte comma || eqb byte semicolon || eqb byte tab
-
--- the first separator that is in no comment, or a comma where there is none; the text goes on in a comment or not
-unfoldable pub separator-after : Bool → List ℕ → ℕ
-separator-after comment [] = comma
-separator-after comment (byte ∷ text) =
-    let further : ℕ = separator-after (in-comment comment byte) text in
-    cond (is-separator byte && not (in-comment comment byte)) byte further
+-- The first separator in lines, which are without their comments, or a comma where there is none.
+unfoldable pub separator-in : List (List ℕ) → ℕ
+separator-in [] = comma
+separator-in (line ∷ lines) = first-byte-or (separator-in lines) (from Separator line)
 
 abbrev pub separator-of : List ℕ → ℕ
-separator-of text = separator-after false text
+separator-of text = separator-in (lines text)
 
 -- ---- Cells
 
@@ -43,6 +38,10 @@ without-last-spaces (byte ∷ text) =
 unfoldable pub trimmed : List ℕ → List ℕ
 trimmed text = without-last-spaces (from NotSpace text)
 
+-- A text from its first byte on that is neither a space nor the separator: nothing where all its cells are blank.
+abbrev pub from-content : ℕ → List ℕ → List ℕ
+from-content separator text = from (NeitherSpaceNor separator) text
+
 -- The first cell of what is left of a line, and what is left after it and its separator. A line that has ended goes on with empty cells.
 abbrev pub first-cell : ℕ → List ℕ → List ℕ
 first-cell separator rest = trimmed (before (Byte separator) rest)
@@ -54,3 +53,7 @@ after-cell separator rest = drop 1 (from (Byte separator) rest)
 unfoldable pub field : ℕ → ℕ → List ℕ → List ℕ
 field separator zero text = before (Byte separator) text
 field separator (suc number) text = field separator number (after-cell separator text)
+
+-- The cell of this number, counted from 1; empty where there are fewer.
+abbrev pub cell-of : ℕ → ℕ → List ℕ → List ℕ
+cell-of separator number line = trimmed (field separator (number - 1) line)

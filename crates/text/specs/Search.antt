@@ -3,15 +3,21 @@ use mathlib.Core.Bool.{Bool, not, _&&_, _||_, cond}
 use mathlib.Core.List.{List, [], _∷_}
 use Prim.Native.Nat.{ℕ}
 use lib.Dec.{eqb}
-use Rattle.text.specs.Bytes.{space}
+use Rattle.text.specs.Bytes.{tab, space, double-quote, comma, semicolon}
 use Rattle.text.specs.declared.search.Sought.{Sought}
-use Rattle.text.specs.declared.search.Sought.the-variants.{Byte, NotSpace, SpaceOr, NeitherSpaceNor}
+use Rattle.text.specs.declared.search.Sought.the-variants.{Byte, Separator, NotSpace, NeitherSpaceNor, WordEnd, WordStart}
+
+-- Words are parted by spaces, double quotes and the separator.
+abbrev pub parts-words : ℕ → ℕ → Bool
+parts-words separator byte = eqb byte space || eqb byte double-quote || eqb byte separator
 
 abbrev pub is-sought : Sought → ℕ → Bool
 is-sought (Byte other) byte = eqb byte other
+is-sought Separator byte = eqb byte comma || eqb byte semicolon || eqb byte tab
 is-sought NotSpace byte = not (eqb byte space)
-is-sought (SpaceOr other) byte = eqb byte space || eqb byte other
 is-sought (NeitherSpaceNor other) byte = not (eqb byte space) && not (eqb byte other)
+is-sought (WordEnd separator) byte = parts-words separator byte
+is-sought (WordStart separator) byte = not (parts-words separator byte)
 
 unfoldable pub before : Sought → List ℕ → List ℕ
 before sought [] = []

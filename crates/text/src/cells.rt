@@ -4,6 +4,8 @@ ghost use Prim.Native.Nat.{_≤_};
 ghost use lib.ListN.{length, take, drop};
 ghost use Rattle.text.specs.Cells as meaning;
 ghost use Rattle.text.specs.Cells.{without-last-spaces, first-cell, after-cell};
+use crate::lines::first_line;
+use crate::lines::first_line_length;
 use crate::search::Sought;
 use crate::search::find;
 
@@ -11,29 +13,16 @@ use crate::search::find;
 pub fn separator_of(text: &[u8]) -> u8
     ensures { λ r. ⌜ r ≡ meaning.separator-of (now (text .entry)) ⌝ }
 {
-    let mut comment = false;
-    let mut at = 0;
-    while at < text.len() {
-        let byte = text[at];
-        comment = in_comment(comment, byte);
-        if is_separator(byte) & !comment {
-            return byte;
+    let mut start = 0;
+    while start < text.len() {
+        let line = first_line(&text[start..]);
+        let at = find(line, Sought::Separator);
+        if at < line.len() {
+            return line[at];
         }
-        at += 1;
+        start += first_line_length(&text[start..]);
     }
     b','
-}
-
-fn is_separator(byte: u8) -> bool
-    ensures { λ r. ⌜ r ≡ meaning.is-separator byte ⌝ }
-{
-    (byte == b',') | (byte == b';') | (byte == b'\t')
-}
-
-fn in_comment(before: bool, byte: u8) -> bool
-    ensures { λ r. ⌜ r ≡ meaning.in-comment before byte ⌝ }
-{
-    if before { byte != b'\n' } else { byte == b'#' }
 }
 
 // The first cell of what is left of a line, without the spaces around it.
@@ -66,8 +55,18 @@ pub fn field(text: &[u8], separator: u8, number: usize) -> &[u8]
     &text[start..end]
 }
 
+// A cell of a line, counted from 1, without the spaces around it; empty where there are fewer.
+pub fn cell_at(line: &[u8], separator: u8, number: usize) -> &[u8]
+    ensures { λ r. ⌜ now r ≡ meaning.cell-of separator number (now (line .entry)) ⌝ }
+{
+    if number == 0 {
+        return trimmed(field(line, separator, 0));
+    }
+    trimmed(field(line, separator, number - 1))
+}
+
 // A text without the spaces around it.
-fn trimmed(text: &[u8]) -> &[u8]
+pub fn trimmed(text: &[u8]) -> &[u8]
     ensures { λ r. ⌜ now r ≡ meaning.trimmed (now (text .entry)) ⌝ }
 {
     let first = find(text, Sought::NotSpace);

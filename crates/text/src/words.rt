@@ -5,18 +5,18 @@ use crate::bytes::small;
 use crate::search::Sought;
 use crate::search::find;
 
-// A word of a line, counted from 0; empty where there are fewer. Spaces and separators part words.
+// A word of a line, counted from 0; empty where there are fewer. Spaces, double quotes and separators part words.
 pub fn word(line: &[u8], separator: u8, number: usize) -> &[u8]
     ensures { λ r. ⌜ now r ≡ meaning.word separator number (now (line .entry)) ⌝ }
 {
-    let mut start = find(line, Sought::NeitherSpaceNor(separator));
+    let mut start = find(line, Sought::WordStart(separator));
     let mut left = number;
     while left > 0 {
-        start += find(&line[start..], Sought::SpaceOr(separator));
-        start += find(&line[start..], Sought::NeitherSpaceNor(separator));
+        start += find(&line[start..], Sought::WordEnd(separator));
+        start += find(&line[start..], Sought::WordStart(separator));
         left -= 1;
     }
-    let end = start + find(&line[start..], Sought::SpaceOr(separator));
+    let end = start + find(&line[start..], Sought::WordEnd(separator));
     &line[start..end]
 }
 

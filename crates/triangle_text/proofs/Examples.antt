@@ -4,10 +4,10 @@ use Rattle.figures.specs.Exact.{fits, exact-of}
 use Rattle.figures.specs.Reading.{all-digits, value-after, whole-of, number-of, figure-of}
 use Rattle.text.specs.Bytes.{small, is-letter}
 use Rattle.text.specs.Search.{before, from}
-use Rattle.text.specs.Lines.{whole-lines, lines}
-use Rattle.text.specs.Cells.{separator-after, without-last-spaces, trimmed}
+use Rattle.text.specs.Lines.{whole-lines, before-comment, lines}
+use Rattle.text.specs.Cells.{separator-in, without-last-spaces, trimmed}
 use Rattle.text.specs.Words.{word, is-word}
-use Rattle.headings.specs.Kinds.{heading-of, kind-of}
+use Rattle.headings.specs.Kinds.{is-either, heading-of, begins-heading, kind-of}
 use Rattle.headings.specs.Places.{from-heading, number-after-lines, rows-in, number-after, is-cumulated}
 use Rattle.headings.specs.Faults.{is-number, is-no-word, says-how, amount-words, cut-words, cell-words, no-words, fault-after}
 use Rattle.row_text.specs.Rows.{occurrences, numbers-from, openings-from}
@@ -17,5 +17,5 @@ use Rattle.triangle_text.specs.Reading.{lists-wanted, triangle-under, we
 use Rattle.triangle_text.specs.Examples.{Texts-hold}
 
 pub texts-hold : Texts-hold
-unfolding fits exact-of all-digits value-after whole-of number-of figure-of small is-letter before from whole-lines lines separator-after without-last-spaces trimmed word is-word heading-of kind-of from-heading number-after-lines rows-in number-after is-cumulated is-number is-no-word says-how amount-words cut-words cell-words no-words fault-after occurrences numbers-from openings-from years-in-range cut-in-range block-from default-row default-from lists-wanted triangle-under weights-under asked-in lists-in with-headings reading-of without-mark reading
+unfolding fits exact-of all-digits value-after whole-of number-of figure-of small is-letter before from whole-lines before-comment lines separator-in without-last-spaces trimmed word is-word is-either heading-of begins-heading kind-of from-heading number-after-lines rows-in number-after is-cumulated is-number is-no-word says-how amount-words cut-words cell-words no-words fault-after occurrences numbers-from openings-from years-in-range cut-in-range block-from default-row default-from lists-wanted triangle-under weights-under asked-in lists-in with-headings reading-of without-mark reading
 texts-hold = refl

@@ -5,4 +5,5 @@ pub mod BlocksRead
 pub mod RowsOfBlock
 pub mod BlocksUnder
 pub mod ListsRead
+pub mod EveryLine
 pub mod Examples

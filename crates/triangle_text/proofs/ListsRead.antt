@@ -27,7 +27,7 @@ use Rattle.method.proofs.Tests.{and-true}
 use Rattle.method.proofs.QuestionFacts.{YearsInRange, CutInRange, years-accepted, cut-accepted}
 use Rattle.triangle_text.specs.Blocks.{Block, numbers, faulty, BlockReadAs}
 use Rattle.triangle_text.specs.Blocks as block
-use Rattle.triangle_text.specs.Reading.{lists-wanted, Lists, Reading, triangle, malformed, then-read, first-fault, fault-of, lists-of, no-lists-read, asked-in, lists-in, with-headings, reading-of, without-mark, reading, TextReadAs}
+use Rattle.triangle_text.specs.Reading.{lists-wanted, Lists, Reading, triangle, malformed, then-read, first-fault, fault-of, no-lists-read, asked-in, lists-in, with-headings, reading-of, without-mark, reading, TextReadAs}
 use Rattle.triangle_text.specs.declared.faults.Expected.the-variants.{InHeading}
 use Rattle.triangle_text.specs.declared.faults.Fault.{Fault}
 use Rattle.triangle_text.specs.declared.faults.Fault.the-variants.{Nothing, At}

@@ -1,19 +1,18 @@
 -- One row of a block, read into the left of a list.
-use mathlib.Core.Path.{_≡_, refl, sym, ap, _∙_}
+use mathlib.Core.Path.{_≡_, refl, ap, _∙_}
 use mathlib.Core.Bool.{Bool}
 use mathlib.Core.List.{List, [], _++_}
 use Prim.Native.Nat.{ℕ, suc, _+_, _-_, _≤_, _<_}
 use native.Mathlib.Omega.{arith}
 use borrow.Author.Tests.{lt-ltb, le-ltb}
 use lib.IntN.{ℤ}
-use lib.ListN.{length, take, length-append}
+use lib.ListN.{length, length-append}
 use lib.Seq.{take-append-seam}
 use Rattle.row_text.specs.Rows.{RowNumbers, row-numbers, openings-numbers, RowReadAs, OpeningsReadAs}
 use Rattle.row_text.specs.Rows as row
 use Rattle.row_text.specs.declared.rows.RowRead.{RowRead}
 use Rattle.row_text.specs.declared.openings.OpeningsRead.{OpeningsRead}
-use Rattle.method.specs.Limits.{most-accident-years}
-use Rattle.triangle_text.specs.Blocks.{Block, numbers, faulty, at-line, row-in, Room, fault-at, fault-of, BlockReadAs, LineReadAs}
+use Rattle.triangle_text.specs.Blocks.{numbers, at-line, row-in, Room, fault-at, fault-of, BlockReadAs, LineReadAs}
 use Rattle.triangle_text.specs.declared.faults.Expected.the-variants.{NoFurtherRow}
 use Rattle.triangle_text.specs.declared.faults.Fault.the-variants.{Nothing, At}
 use Rattle.triangle_text.specs.declared.blocks.Shape.{Shape}

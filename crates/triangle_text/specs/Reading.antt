@@ -79,6 +79,9 @@ module _ (separator : ℕ) (all : List (List ℕ)) where
   asked-in = record {
     years = pos (rows-in separator (lines-under separator Payments all));
     cut = number-after separator Cut 1 (pos 1) all;
+    «payments_cumulated» = is-cumulated separator Payments all;
+    «adjustments_cumulated» = is-cumulated separator Adjustments all;
+    «weights_given» = is-given (line-number separator Weights all);
     «one_cell» = is-given (line-number separator Cell all);
     «accident_year» = number-after separator Cell 1 (pos 0) all;
     «development_year» = number-after separator Cell 2 (pos 0) all;

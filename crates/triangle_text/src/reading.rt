@@ -35,10 +35,14 @@ pub const SEEN_CELLS: usize = 528;
 
 pub const WEIGHTED_CELLS: usize = 496;
 
-// What the headings say: the number of accident years, the cut, and the cell that is asked for alone, where one is.
+// What the headings say: the number of accident years, the cut, how the amounts are to be read, whether weights are given,
+// and the cell that is asked for alone, where one is.
 pub struct Asked {
     pub years: i64,
     pub cut: i64,
+    pub payments_cumulated: bool,
+    pub adjustments_cumulated: bool,
+    pub weights_given: bool,
     pub one_cell: bool,
     pub accident_year: i64,
     pub development_year: i64,
@@ -90,7 +94,7 @@ pub fn read_text(
 }
 
 // A text without the byte order mark at its start.
-fn without_mark(bytes: &[u8]) -> &[u8]
+pub fn without_mark(bytes: &[u8]) -> &[u8]
     ensures { λ r. ⌜ now r ≡ meaning.without-mark (now (bytes .entry)) ⌝ }
 {
     if bytes.len() < 3 {
@@ -131,10 +135,14 @@ fn asked_in(text: &[u8], separator: u8) -> Asked
 {
     let payments = find_heading(text, separator, LineKind::Payments);
     let rows = payments.rows;
+    let weights = find_heading(text, separator, LineKind::Weights);
     let cell = find_heading(text, separator, LineKind::Cell);
     Asked {
         years: count_rows(text, separator, rows) as i64,
         cut: number_after(text, separator, LineKind::Cut, 1, 1),
+        payments_cumulated: is_cumulated(text, separator, LineKind::Payments),
+        adjustments_cumulated: is_cumulated(text, separator, LineKind::Adjustments),
+        weights_given: weights.line > 0,
         one_cell: cell.line > 0,
         accident_year: number_after(text, separator, LineKind::Cell, 1, 0),
         development_year: number_after(text, separator, LineKind::Cell, 2, 0),

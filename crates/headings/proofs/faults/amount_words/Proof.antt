@@ -1,11 +1,8 @@
--- The tests are those of the definition.
+-- The test is that of the definition.
 use borrow.Author.Needs.{needs}
 use Rattle.headings.specs.Faults.{amount-words}
 use Rattle.headings.proofs.faults.amount_words.Statement.{statement}
 use Rattle.headings.proofs.faults.amount_words.Tie as tie
-
-is-no-word-requires : tie.Need-is-no-word-requires
-is-no-word-requires c κs = search needs
 
 says-how-requires : tie.Need-says-how-requires
 says-how-requires c κs = search needs
@@ -18,5 +15,4 @@ unfolding amount-words
 returns c = cc
 
 pub amount-words-spec : {M : Type 1} → statement M
-amount-words-spec =
-    tie.close (tie.spec is-no-word-requires says-how-requires check-requires returns)
+amount-words-spec = tie.close (tie.spec says-how-requires check-requires returns)

@@ -7,17 +7,14 @@ use Rattle.headings.proofs.faults.says_how.Tie as tie
 word-requires : tie.Need-word-requires
 word-requires c κs = search needs
 
+says-cumulated-requires : tie.Need-says-cumulated-requires
+says-cumulated-requires c κs = search needs
+
 slice-aggregate-is-word : tie.Need-slice-aggregate-is-word
 slice-aggregate-is-word c = search needs
 
 is-word-requires : tie.Need-is-word-requires
 is-word-requires c κs = search needs
-
-slice-aggregate-is-word-2 : tie.Need-slice-aggregate-is-word-2
-slice-aggregate-is-word-2 c = search needs
-
-is-word-requires-2 : tie.Need-is-word-requires-2
-is-word-requires-2 c κs = search needs
 
 is-no-word-requires : tie.Need-is-no-word-requires
 is-no-word-requires c κs = search needs
@@ -31,9 +28,8 @@ says-how-spec =
     tie.close
     (tie.spec
     word-requires
+    says-cumulated-requires
     slice-aggregate-is-word
     is-word-requires
-    slice-aggregate-is-word-2
-    is-word-requires-2
     is-no-word-requires
     returns)

@@ -1,9 +1,8 @@
 -- The line that is read is the heading's.
 use mathlib.Core.Path.{ap, _∙_}
 use borrow.Author.Needs.{needs}
-use Rattle.figures.specs.Bytes.{bytes}
-use Rattle.text.specs.Words.{word, is-word}
-use Rattle.headings.specs.Places.{is-cumulated}
+use Rattle.text.specs.Words.{word}
+use Rattle.headings.specs.Places.{says-cumulated, is-cumulated}
 use Rattle.headings.proofs.HeadingSearch.{found-line}
 use Rattle.headings.proofs.places.is_cumulated.Statement.{statement}
 use Rattle.headings.proofs.places.is_cumulated.Tie as tie
@@ -26,21 +25,18 @@ first-line-requires c κs = search needs
 word-requires : tie.Need-word-requires
 word-requires c κs = search needs
 
-slice-aggregate-is-word : tie.Need-slice-aggregate-is-word
-slice-aggregate-is-word c = search needs
-
-is-word-requires : tie.Need-is-word-requires
-is-word-requires c κs = search needs
+says-cumulated-requires : tie.Need-says-cumulated-requires
+says-cumulated-requires c κs = search needs
 
 returns : tie.Need-returns
 unfolding is-cumulated
 returns c =
-    let first = c .before .before .before in
+    let first = c .before .before in
     let found = first .before .before in
     let args = found .before .before .args in
     let line = found-line (args .text .now) (args .separator) (args .heading) (found .find-heading .result) (found .find-heading .ensures)
     (first .first-line .result .now) (first .first-line .ensures) in
-    c .is-word .ensures ∙ ap (λ name. is-word name (bytes "cumulated")) (c .before .before .word .ensures ∙ ap (word (args .separator) 1) line)
+    c .says-cumulated .ensures ∙ ap says-cumulated (c .before .word .ensures ∙ ap (word (args .separator) 1) line)
 
 pub is-cumulated-spec : {M : Type 1} → statement M
 is-cumulated-spec =
@@ -52,6 +48,5 @@ is-cumulated-spec =
     part-first-line-end
     first-line-requires
     word-requires
-    slice-aggregate-is-word
-    is-word-requires
+    says-cumulated-requires
     returns)

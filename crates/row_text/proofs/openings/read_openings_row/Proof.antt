@@ -8,8 +8,7 @@ use borrow.Author.Needs.{needs}
 use lib.IntN.{ℤ}
 use lib.ListN.{length, drop}
 use Rattle.integers.proofs.MachineArithmetic.{held}
-use Rattle.text.specs.Cells.{after-cell}
-use Rattle.text.specs.Words.{from-word}
+use Rattle.text.specs.Cells.{after-cell, from-content}
 use Rattle.text.specs.declared.search.Sought.the-variants.{NeitherSpaceNor}
 use Rattle.text.proofs.Searches.{found-within-rest, from-found-in-rest}
 use Rattle.row_text.specs.Rows.{RowNumbers, after-entry, openings-numbers, entry-read}
@@ -67,7 +66,7 @@ found-within c =
     let turn = c .before .before in
     found-within-rest (NeitherSpaceNor (separator turn)) (line turn) (turn .loop .start) (c .find .result) (turn .loop .inv .start-within) (c .find .ensures)
 
-from-there : (c : tie.After-find Inv-loop μ-loop) → let turn = c .before .before in drop (found c) (line turn) ≡ from-word (separator turn) (rest turn)
+from-there : (c : tie.After-find Inv-loop μ-loop) → let turn = c .before .before in drop (found c) (line turn) ≡ from-content (separator turn) (rest turn)
 from-there c =
     let turn = c .before .before in
     from-found-in-rest (NeitherSpaceNor (separator turn)) (line turn) (turn .loop .start) (c .find .result) (turn .loop .inv .start-within) (c .find .ensures)

@@ -6,7 +6,7 @@ use borrow.Author.Needs.{needs}
 use lib.ListN.{length, drop, drop-of-length-le}
 use lib.Seq.{drop-cons}
 use Rattle.text.specs.Search.{before}
-use Rattle.text.specs.Words.{from-word}
+use Rattle.text.specs.Cells.{from-content}
 use Rattle.text.specs.declared.search.Sought.the-variants.{NeitherSpaceNor}
 use Rattle.text.proofs.Searches.{before-within, found-within, from-found, part-before-found}
 use Rattle.row_text.specs.Rows.{row-read, ended, occurrences}
@@ -21,7 +21,7 @@ find-requires c κs = search needs
 
 -- what is found is where the rest goes on with a word
 from-there : (c : tie.After-find) → let args = c .before .before .args in
-    drop (c .find .result) (args .rest .now) ≡ from-word (args .separator) (args .rest .now)
+    drop (c .find .result) (args .rest .now) ≡ from-content (args .separator) (args .rest .now)
 from-there c =
     let args = c .before .before .args in
     from-found (NeitherSpaceNor (args .separator)) (args .rest .now) (c .find .result) (c .find .ensures)

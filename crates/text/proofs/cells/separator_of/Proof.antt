@@ -1,62 +1,96 @@
--- What is left of the text, in a comment or not, has the separator of the whole; each turn leaves one byte less.
-use mathlib.Core.Path.{_≡_, sym, ap, ap₂, _∙_}
-use mathlib.Core.Bool.{false, not, _&&_}
-use Prim.Native.Nat.{_+_, _-_, _≤_}
+-- What is left of the text has the separator of the whole; each turn passes a line.
+use mathlib.Core.Path.{_≡_, sym, ap, _∙_}
+use mathlib.Core.List.{List, _∷_}
+use Prim.Native.Nat.{ℕ, _+_, _-_, _≤_}
+use native.Mathlib.Omega.{arith}
 use lib.ListN.{length, drop}
 use borrow.Author.Needs.{needs}
-use native.Mathlib.Omega.{arith}
-use Rattle.text.specs.Cells.{separator-after}
+use Rattle.text.specs.Lines.{lines, others-of}
+use Rattle.text.specs.Cells.{separator-in}
+use Rattle.text.proofs.LinesOfText.{LineAt, line-read, line-and-others}
 use Rattle.text.proofs.Separators.{separator-here, separator-later, no-separator}
 use Rattle.text.proofs.cells.separator_of.Statement.{statement}
 use Rattle.text.proofs.cells.separator_of.Tie as tie
 
 abbrev Inv-loop : tie.InvT-loop
-Inv-loop text comment₀ at₀ comment at = (at ≤ length text) × (separator-after comment (drop at text) ≡ separator-after false text)
+Inv-loop text start₀ start = (start ≤ length text) × (separator-in (lines (drop start text)) ≡ separator-in (lines text))
 
 abbrev μ-loop : tie.MeasureT-loop
-μ-loop text comment₀ at₀ comment at = length text - at
+μ-loop text start₀ start = length text - start
+
+abbrev turn-of : tie.After-find Inv-loop μ-loop → tie.At-loop Inv-loop μ-loop
+turn-of c = c .before .before .before .before
+
+abbrev text : tie.After-find Inv-loop μ-loop → List ℕ
+text c = turn-of c .before .before .args .text .now
+
+abbrev line : tie.After-find Inv-loop μ-loop → List ℕ
+line c = c .before .first-line .result .now
+
+first-line : (c : tie.After-find Inv-loop μ-loop) → let start = turn-of c .loop .start in
+    lines (drop start (text c)) ≡ line c ∷ others-of (lines (drop start (text c)))
+first-line c = line-and-others (text c) (turn-of c .loop .start) (line c) (c .before .first-line .ensures) (omega arith)
+
+read : (c : tie.After-first-line-length Inv-loop μ-loop) → let found = c .before .before .before in
+    LineAt (text found) (turn-of found .loop .start) (line found) (turn-of found .loop .start + c .first-line-length .result)
+read c =
+    let found = c .before .before .before in
+    line-read (text found) (turn-of found .loop .start) (line found) (found .before .first-line .ensures) (omega arith)
+    (c .first-line-length .result) (c .first-line-length .ensures)
 
 loop-holds : tie.Need-loop-holds Inv-loop μ-loop
 loop-holds c = search needs
 
-shared-slice-read-byte : tie.Need-shared-slice-read-byte Inv-loop μ-loop
-shared-slice-read-byte c = search needs
+sub-first-line : tie.Need-sub-first-line Inv-loop μ-loop
+sub-first-line c = search needs
 
-in-comment-requires : tie.Need-in-comment-requires Inv-loop μ-loop
-in-comment-requires c κs = search needs
+part-first-line-start : tie.Need-part-first-line-start Inv-loop μ-loop
+part-first-line-start c = search needs
 
-is-separator-requires : tie.Need-is-separator-requires Inv-loop μ-loop
-is-separator-requires c κs = search needs
+part-first-line-end : tie.Need-part-first-line-end Inv-loop μ-loop
+part-first-line-end c = search needs
+
+first-line-requires : tie.Need-first-line-requires Inv-loop μ-loop
+first-line-requires c κs = search needs
+
+find-requires : tie.Need-find-requires Inv-loop μ-loop
+find-requires c κs = search needs
+
+shared-slice-read-result : tie.Need-shared-slice-read-result Inv-loop μ-loop
+shared-slice-read-result c = search needs
 
 returns : tie.Need-returns Inv-loop μ-loop
 returns c =
-    let turn = c .before .before .before .before .before in
-    let text = turn .before .before .args .text .now in
-    let here = sym (ap₂ (λ a b. a && not b) (c .before .is-separator .ensures) (c .before .before .in-comment .ensures)) ∙ c .if1 .taken in
-    separator-here (turn .loop .comment) text (turn .loop .at) (omega arith) here ∙ turn .loop .inv .1
+    let found = c .before .before in
+    let turn = turn-of found in
+    separator-here (line found) _ (found .find .result) (found .find .ensures) (c .before .if1 .taken) ∙ sym (ap separator-in (first-line found)) ∙ turn .loop .inv .1
 
-add-at : tie.Need-add-at Inv-loop μ-loop
-add-at c = search needs
+sub-first-line-length : tie.Need-sub-first-line-length Inv-loop μ-loop
+sub-first-line-length c = search needs
+
+part-first-line-length-start : tie.Need-part-first-line-length-start Inv-loop μ-loop
+part-first-line-length-start c = search needs
+
+part-first-line-length-end : tie.Need-part-first-line-length-end Inv-loop μ-loop
+part-first-line-length-end c = search needs
+
+first-line-length-requires : tie.Need-first-line-length-requires Inv-loop μ-loop
+first-line-length-requires c κs = search needs
+
+add-start : tie.Need-add-start Inv-loop μ-loop
+add-start c = search needs
 
 loop-less : tie.Need-loop-less Inv-loop μ-loop
-loop-less c = search needs
+loop-less c = omega (arith, read c .within, read c .further)
 
 loop-again : tie.Need-loop-again Inv-loop μ-loop
 loop-again c =
-    let turn = c .before .before .before .before .before in
-    let text = turn .before .before .args .text .now in
-    let at = turn .loop .at in
-    let now-in-comment = c .before .before .in-comment .ensures in
-    let not-here = sym (ap₂ (λ a b. a && not b) (c .before .is-separator .ensures) now-in-comment) ∙ c .if1 .left in (
-      omega arith,
-      ap (λ comment. separator-after comment (drop (at + 1) text)) now-in-comment
-          ∙ separator-later (turn .loop .comment) text at (omega arith) not-here ∙ turn .loop .inv .1,
-    )
+    let found = c .before .before .before in
+    let passed = ap separator-in (read c .parts) in
+    (read c .within, separator-later (line found) _ (found .find .result) (found .find .ensures) (omega arith) ∙ sym passed ∙ turn-of found .loop .inv .1)
 
 returns-2 : tie.Need-returns-2 Inv-loop μ-loop
-returns-2 c =
-    let turn = c .before in
-    no-separator (turn .loop .comment) _ (turn .loop .at) (omega arith) ∙ turn .loop .inv .1
+returns-2 c = no-separator (c .before .before .before .args .text .now) (c .before .loop .start) (omega arith) ∙ c .before .loop .inv .1
 
 pub separator-of-spec : {M : Type 1} → statement M
 separator-of-spec =
@@ -65,11 +99,18 @@ separator-of-spec =
     Inv-loop
     μ-loop
     loop-holds
-    shared-slice-read-byte
-    in-comment-requires
-    is-separator-requires
+    sub-first-line
+    part-first-line-start
+    part-first-line-end
+    first-line-requires
+    find-requires
+    shared-slice-read-result
     returns
-    add-at
+    sub-first-line-length
+    part-first-line-length-start
+    part-first-line-length-end
+    first-line-length-requires
+    add-start
     loop-less
     loop-again
     returns-2)

@@ -23,14 +23,23 @@ find-heading-requires c κs = search needs
 find-heading-requires-2 : tie.Need-find-heading-requires-2
 find-heading-requires-2 c κs = search needs
 
+find-heading-requires-3 : tie.Need-find-heading-requires-3
+find-heading-requires-3 c κs = search needs
+
 count-rows-requires : tie.Need-count-rows-requires
 count-rows-requires c κs = search needs
 
-cast-t8 : tie.Need-cast-t8
-cast-t8 c = search needs
+cast-t9 : tie.Need-cast-t9
+cast-t9 c = search needs
 
 number-after-requires : tie.Need-number-after-requires
 number-after-requires c κs = search needs
+
+is-cumulated-requires : tie.Need-is-cumulated-requires
+is-cumulated-requires c κs = search needs
+
+is-cumulated-requires-2 : tie.Need-is-cumulated-requires-2
+is-cumulated-requires-2 c κs = search needs
 
 number-after-requires-2 : tie.Need-number-after-requires-2
 number-after-requires-2 c κs = search needs
@@ -41,10 +50,13 @@ number-after-requires-3 c κs = search needs
 returns : tie.Need-returns
 unfolding asked-in
 returns c =
-    let cut = c .before .before .before in
+    let adjustments-read = c .before .before .before .before in
+    let payments-read = adjustments-read .before in
+    let cut = payments-read .before in
     let count = cut .before in
     let cell = count .before in
-    let payments = cell .before in
+    let weights = cell .before in
+    let payments = weights .before in
     let start = payments .before .before in
     let separator = start .args .separator in
     let all = lines (start .args .text .now) in
@@ -54,7 +66,10 @@ returns c =
     rw (
       years,
       read-back {m = number-after separator Cut 1 (pos 1) all} (record { sfits = cut .number-after .ok }) (cut .number-after .ensures),
-      cell .find-heading2 .ensures .line-is,
+      payments-read .is-cumulated .ensures,
+      adjustments-read .is-cumulated2 .ensures,
+      weights .find-heading2 .ensures .line-is,
+      cell .find-heading3 .ensures .line-is,
       read-back {m = number-after separator Cell 1 (pos 0) all} (record { sfits = c .before .number-after2 .ok }) (c .before .number-after2 .ensures),
       read-back {m = number-after separator Cell 2 (pos 0) all} (record { sfits = c .number-after3 .ok }) (c .number-after3 .ensures),
     )
@@ -65,9 +80,12 @@ asked-in-spec =
     (tie.spec
     find-heading-requires
     find-heading-requires-2
+    find-heading-requires-3
     count-rows-requires
-    cast-t8
+    cast-t9
     number-after-requires
+    is-cumulated-requires
+    is-cumulated-requires-2
     number-after-requires-2
     number-after-requires-3
     returns)

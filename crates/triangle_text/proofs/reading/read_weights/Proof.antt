@@ -1,5 +1,4 @@
 -- By whether the text has the heading of weights.
-use mathlib.Core.Path.{_≡_, sym, _∙_}
 use native.Mathlib.Omega.{arith}
 use borrow.Author.Needs.{needs}
 use Rattle.triangle_text.proofs.BlocksUnder.{weights-given, weights-filled-in}

@@ -1,0 +1,18 @@
+-- The tests are those of the definition.
+use borrow.Author.Needs.{needs}
+use Rattle.headings.specs.Kinds.{is-either}
+use Rattle.headings.proofs.kinds.is_either.Statement.{statement}
+use Rattle.headings.proofs.kinds.is_either.Tie as tie
+
+is-word-requires : tie.Need-is-word-requires
+is-word-requires c κs = search needs
+
+is-word-requires-2 : tie.Need-is-word-requires-2
+is-word-requires-2 c κs = search needs
+
+returns : tie.Need-returns
+unfolding is-either
+returns c = cc
+
+pub is-either-spec : {M : Type 1} → statement M
+is-either-spec = tie.close (tie.spec is-word-requires is-word-requires-2 returns)
