@@ -1,19 +1,15 @@
 -- The observed outstandings of a row as a loop makes them: each from the one before, within 64 bits where the row is within the limits.
 use mathlib.Core.Path.{_≡_, sym, ap, _∙_, subst}
-use mathlib.Core.Logic.{inl}
 use Prim.Native.Nat.{ℕ, suc, _+_, _-_, _≤_}
 use native.Mathlib.Numerals.{add-one}
 use native.Mathlib.Omega.{arith}
-use lib.IntN.{ℤ, natAbs, _+ℤ_, _-ℤ_}
+use lib.IntN.{ℤ, _+ℤ_, _-ℤ_}
 use mir.Syntax.{w64}
 use mir.Val.{SFits}
-use Rattle.integers.proofs.MachineArithmetic.{fits-natAbs}
 use Rattle.figures.specs.Exact.{exact-of}
 use Rattle.figures.proofs.Fits.{exact-within}
-use Rattle.method.specs.Limits.{greatest-outstanding}
 use Rattle.method.specs.Triangle.{Triangle, S, T, entry}
 use Rattle.method.specs.Outstandings.{R}
-use Rattle.outstandings.specs.Observed.{Movable}
 use Rattle.outstandings.proofs.RowOutstandings.{less-payment-fits, next-fits}
 use Rattle.completed.specs.Completed.{RowWithin, MovedTo, number-or-0, OutstandingAt}
 
@@ -37,29 +33,18 @@ module _ (t : Triangle) (i : ℕ) where
       let year-after : suc (i - 1) ≡ i = omega arith in
       record { is = λ within. e ∙ ap (entry (t .openings)) year-after }
 
-  one-year-less : (j : ℕ) → RowWithin t i (suc j) → RowWithin t i j
-  one-year-less j within = record {
-    payments-within = λ y l. within .payments-within y (omega arith);
-    adjustments-within = λ y l. within .adjustments-within y (omega arith);
-    outstandings-within = λ y l. within .outstandings-within y (omega arith);
-  }
-
-  movable : (j : ℕ) → RowWithin t i (suc j) → Movable (R t i j) (S t i (suc j)) (T t i (suc j))
-  movable j within = record {
-    payment-size = within .payments-within (suc j) (omega arith);
-    adjustment-size = within .adjustments-within (suc j) (omega arith);
-    in-range-or-unmoved = inl (within .outstandings-within j (omega arith));
-  }
-
-  next-is : (j : ℕ) (r : ℤ) → RowWithin t i (suc j) → MovedTo (R t i j) (S t i (suc j)) (T t i (suc j)) r → r ≡ R t i (suc j)
+  next-is : (j : ℕ) (r : ℤ) → SFits w64 (R t i j) → RowWithin t i (suc j) → MovedTo (R t i j) (S t i (suc j)) (T t i (suc j)) r → r ≡ R t i (suc j)
   unfolding R
-  next-is j r within moved =
-      let fits = fits-natAbs w64 (R t i j) (natAbs greatest-outstanding) (within .outstandings-within j (omega arith)) (omega arith) in
-      moved .is (less-payment-fits _ _ _ fits (movable j within)) (next-fits _ _ _ fits (movable j within))
+  next-is j r fits within moved =
+      let movable = within .movable j (omega arith) in
+      moved .is (less-payment-fits _ _ _ fits movable) (next-fits _ _ _ fits movable)
 
-  pub next-year : (j : ℕ) {outstanding r : ℤ} → OutstandingAt t i j outstanding
+  pub next-year : (j : ℕ) {outstanding r : ℤ} → SFits w64 outstanding → OutstandingAt t i j outstanding
       → MovedTo outstanding (S t i (j + 1)) (T t i (j + 1)) r → OutstandingAt t i (j + 1) r
-  next-year j {r = r} so-far moved = rw add-one (record {
-    is = λ within. next-is j r within (subst
-        (λ (x : ℤ). MovedTo x (S t i (suc j)) (T t i (suc j)) r) (so-far .is (one-year-less j within)) (rw add-one at moved));
+  next-year j {outstanding} {r} fits so-far moved = rw add-one (record {
+    is = λ within.
+        let up-to-here : RowWithin t i j = record { movable = λ y l. within .movable y (omega arith) } in
+        let here = so-far .is up-to-here in
+        next-is j r (subst (λ (x : ℤ). SFits w64 x) here fits) within
+        (subst (λ (x : ℤ). MovedTo x (S t i (suc j)) (T t i (suc j)) r) here (rw add-one at moved));
   })

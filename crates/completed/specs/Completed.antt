@@ -3,17 +3,18 @@
 use mathlib.Core.Path.{_≡_}
 use mathlib.Core.Bool.{cond}
 use mathlib.Core.List.{List, []}
-use Prim.Native.Nat.{ℕ, _+_, _-_, _≤_}
+use Prim.Native.Nat.{ℕ, suc, _+_, _-_, _≤_, _<_}
 use lib.Dec.{leb}
-use lib.IntN.{ℤ, pos, natAbs, _+ℤ_, _-ℤ_}
+use lib.IntN.{ℤ, pos, _+ℤ_, _-ℤ_}
 use mir.Syntax.{w64}
 use mir.Val.{SFits}
 use Rattle.figures.specs.declared.exact.Exact.{Exact}
 use Rattle.figures.specs.declared.exact.Exact.the-variants.{Of, TooLarge}
-use Rattle.method.specs.Limits.{greatest-amount, greatest-outstanding, most-accident-years}
+use Rattle.method.specs.Limits.{most-accident-years}
 use Rattle.method.specs.Triangle.{Triangle, seen, cell, S, T}
 use Rattle.method.specs.Outstandings.{R}
 use Rattle.method.specs.AnswerPlaces.{cell-figure}
+use Rattle.outstandings.specs.Observed.{Movable}
 use Rattle.completed.specs.declared.shown.Shown.{Shown}
 use Rattle.completed.specs.declared.shown.Shown.the-variants.{Missing, Observed, Projected}
 
@@ -42,11 +43,10 @@ abbrev pub of-lists : ℕ → List ℤ → List ℤ → List ℤ → Triangle
 of-lists n payments adjustments openings =
     record { years = pos n; cut = pos 1; payments = payments; adjustments = adjustments; weights = []; openings = openings }
 
--- Row i up to year k is within the limits of questions 5 and 6, as it is up to every seen cell of an accepted triangle.
+-- Up to year k all that moves in row i is within the limits of questions 5 and 6, as it is up to every seen cell of an accepted triangle,
+-- and up to the cell that question 6 refuses.
 pub record RowWithin (t : Triangle) (i k : ℕ) : Type 0 where
-  pub payments-within : (j : ℕ) → j ≤ k → natAbs (S t i j) ≤ natAbs greatest-amount
-  pub adjustments-within : (j : ℕ) → j ≤ k → natAbs (T t i j) ≤ natAbs greatest-amount
-  pub outstandings-within : (j : ℕ) → j ≤ k → natAbs (R t i j) ≤ natAbs greatest-outstanding
+  pub movable : (j : ℕ) → j < k → Movable (R t i j) (S t i (suc j)) (T t i (suc j))
 
 -- one step, where 64 bits hold both of its sums
 pub record MovedTo (outstanding payment adjustment r : ℤ) : Type 0 where

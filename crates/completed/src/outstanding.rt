@@ -8,7 +8,7 @@ use figures::exact::sum;
 use outstandings::opening_of;
 
 // The outstanding of accident year i at the end of development year k, where the row is within the limits of questions 5 and 6.
-pub(crate) fn outstanding_at<'a>(
+pub fn outstanding_at<'a>(
     n: usize,
     payments: &'a [i64],
     adjustments: &'a [i64],
@@ -37,7 +37,8 @@ fn moved(outstanding: i64, payment: i64, adjustment: i64) -> i64
     or_0(sum(or_0(difference(outstanding, payment)), adjustment))
 }
 
-fn or_0(exact: Exact) -> i64
+// An exact number, or 0 where it has more than 64 bits.
+pub fn or_0(exact: Exact) -> i64
     ensures { λ r. ⌜ r ≡ number-or-0 exact ⌝ }
 {
     match exact {

@@ -9,7 +9,7 @@ ghost use Rattle.method.specs.AnswerPlaces.{cell-figure, year-figure};
 ghost use Rattle.completed.specs.Completed.{CellOfSquare};
 
 // Cell (i, k) of a list whose rows have n, n − 1, … cells; 0 where the list has ended.
-pub(crate) fn cell_at(n: usize, list: &[i64], i: usize, k: usize) -> i64
+pub fn cell_at(n: usize, list: &[i64], i: usize, k: usize) -> i64
     requires { ⌜ CellOfSquare n i k ⌝ }
     ensures { λ r. ⌜ r ≡ cell (pos 0) n (now (list .entry)) i k ⌝ }
 {

@@ -1,45 +1,51 @@
 // The call of the engine that a text asks for, and what is printed of its answer.
-use crate::completed_tables::print_completed;
-use crate::counts::FUTURE_FIGURES;
-use crate::counts::cells_in;
-use crate::counts::count_of;
-use crate::counts::larger;
-use crate::counts::less;
-use crate::messages::print_with_numbers;
-use crate::printing::print;
-use crate::printing::print_entry;
-use crate::refusals::print_refusal;
-use crate::reserve_table::print_reserves;
-use crate::sums_table::print_sums;
+ghost use Prim.Native.Nat.{_≤_};
+ghost use Rattle.method.specs.Limits.{most-accident-years};
+use crate::printing::print_empty_line;
+use crate::printing::print_line;
+use crate::printing::print_two;
+use crate::refused::print_refusal;
+use crate::tables_of_answer::print_tables;
 use calls::reserve::reserve;
-use figures::writing::amount;
-use questions::inputs::AnswerLists;
+use printed::counts::less;
+use refusals::counts::count_of;
 use single_cell::single_cell;
-use triangle::reading::read;
+use tables::accepted::accepted_line;
+use tables::accepted::adjustments_line;
+use tables::accepted::openings_line;
+use tables::accepted::payments_line;
+use tables::accepted::weights_line;
+use tables::one_cell::cell_adjustment;
+use tables::one_cell::cell_column;
+use tables::one_cell::cell_outstanding;
+use tables::one_cell::cell_payment;
+use tables::one_cell::cell_title;
 use triangle_text::reading::Asked;
 use verdicts::verdict::Verdict;
 
 pub(crate) fn call<'a>(
+    text: &'a [u8],
     asked: Asked,
     payments: &'a [i64],
     adjustments: &'a [i64],
     weights: &'a [i64],
     openings: &'a [i64],
-) {
+) -> bool {
     if asked.one_cell {
-        call_cell(asked, payments, adjustments, weights, openings);
+        call_cell(text, asked, payments, adjustments, weights, openings)
     } else {
-        call_reserve(asked, payments, adjustments, weights, openings);
+        call_reserve(text, asked, payments, adjustments, weights, openings)
     }
 }
 
 fn call_cell<'a>(
+    text: &'a [u8],
     asked: Asked,
     payments: &'a [i64],
     adjustments: &'a [i64],
     weights: &'a [i64],
     openings: &'a [i64],
-) {
+) -> bool {
     let cell = single_cell(
         asked.years,
         asked.cut,
@@ -56,59 +62,79 @@ fn call_cell<'a>(
             print_cell(asked, cell.payment.0, cell.adjustment.0, cell.outstanding.0)
         }
         Verdict::Refused(question, place) => print_refusal(
-            question,
-            place,
+            text,
             asked,
             payments,
             adjustments,
             weights,
             openings,
+            question,
+            place,
         ),
     }
 }
 
-fn print_cell(asked: Asked, payment: i64, adjustment: i64, outstanding: i64) {
-    print_accepted(asked);
-    print_with_numbers(
-        b"\nAccident year @ in development year @, in units\n",
-        asked.accident_year,
-        asked.development_year,
-    );
-    let paid = amount(payment);
-    let adjusted = amount(adjustment);
-    let left = amount(outstanding);
-    let column = larger(larger(paid.width, adjusted.width), left.width);
-    print(b"    payment");
-    print_entry(b"", paid, column);
-    print(b"\n adjustment");
-    print_entry(b"", adjusted, column);
-    print(b"\noutstanding");
-    print_entry(b"", left, column);
-    print(b"\n");
+fn print_cell(asked: Asked, payment: i64, adjustment: i64, outstanding: i64) -> bool {
+    if !print_accepted(asked) {
+        return false;
+    }
+    if !print_empty_line() {
+        return false;
+    }
+    let column = cell_column(payment, adjustment, outstanding);
+    let title = cell_title(asked.accident_year, asked.development_year);
+    if print_two(title, cell_payment(payment, column)) {
+        print_two(
+            cell_adjustment(adjustment, column),
+            cell_outstanding(outstanding, column),
+        )
+    } else {
+        false
+    }
 }
 
-fn print_accepted(asked: Asked) {
-    print_with_numbers(
-        b"accepted: @ accident years, cut @\n",
-        asked.years,
-        asked.cut,
-    );
+// That the triangle is accepted, and how it was read.
+fn print_accepted(asked: Asked) -> bool {
+    if !print_two(
+        accepted_line(asked.years, asked.cut),
+        payments_line(asked.payments_cumulated),
+    ) {
+        return false;
+    }
+    if !print_two(
+        adjustments_line(asked.adjustments_cumulated),
+        weights_line(asked.weights_given),
+    ) {
+        return false;
+    }
+    if asked.cut > 1 {
+        print_line(openings_line())
+    } else {
+        true
+    }
 }
+
+// Room for the answer lists of the largest triangle, and more.
+const FUTURE_FIGURES: usize = 1584;
+
+const RESERVE_FIGURES: usize = 96;
 
 // Makes the two answer lists, of the lengths that an accepted call wants.
 fn call_reserve<'a>(
+    text: &'a [u8],
     asked: Asked,
     payments: &'a [i64],
     adjustments: &'a [i64],
     weights: &'a [i64],
     openings: &'a [i64],
-) {
+) -> bool {
     let mut future = [0; FUTURE_FIGURES];
-    let mut reserves = [0; 96];
+    let mut reserves = [0; RESERVE_FIGURES];
     let n = count_of(asked.years);
-    let future_end = 3 * cells_in(less(n, 1));
+    let future_end = future_length(n);
     let reserves_end = 3 * n;
     with_answer_lists(
+        text,
         asked,
         payments,
         adjustments,
@@ -116,10 +142,11 @@ fn call_reserve<'a>(
         openings,
         &mut future[0..future_end],
         &mut reserves[0..reserves_end],
-    );
+    )
 }
 
 fn with_answer_lists<'a>(
+    text: &'a [u8],
     asked: Asked,
     payments: &'a [i64],
     adjustments: &'a [i64],
@@ -127,7 +154,7 @@ fn with_answer_lists<'a>(
     openings: &'a [i64],
     future: &mut [i64],
     reserves: &mut [i64],
-) {
+) -> bool {
     let verdict = reserve(
         asked.years,
         asked.cut,
@@ -139,52 +166,39 @@ fn with_answer_lists<'a>(
         reserves,
     );
     match verdict {
-        Verdict::Accepted => print_tables(
+        Verdict::Accepted => {
+            if print_accepted(asked) {
+                print_tables(
+                    asked.years,
+                    asked.cut,
+                    payments,
+                    adjustments,
+                    weights,
+                    openings,
+                    future,
+                    reserves,
+                )
+            } else {
+                false
+            }
+        }
+        Verdict::Refused(question, place) => print_refusal(
+            text,
             asked,
             payments,
             adjustments,
             weights,
             openings,
-            future,
-            reserves,
-        ),
-        Verdict::Refused(question, place) => print_refusal(
             question,
             place,
-            asked,
-            payments,
-            adjustments,
-            weights,
-            openings,
         ),
     }
 }
 
-fn print_tables<'a>(
-    asked: Asked,
-    payments: &'a [i64],
-    adjustments: &'a [i64],
-    weights: &'a [i64],
-    openings: &'a [i64],
-    future: &'a [i64],
-    reserves: &'a [i64],
-) {
-    let reading = read(
-        asked.years,
-        asked.cut,
-        payments,
-        adjustments,
-        weights,
-        openings,
-        AnswerLists::NotGiven,
-    );
-    let development = reading.development;
-    let n = count_of(asked.years);
-    let cut = count_of(asked.cut);
-    print_accepted(asked);
-    print_completed(n, cut, payments, adjustments, openings, future);
-    let ratios = development.ratios;
-    print_sums(n, ratios);
-    let outstandings = development.outstandings;
-    print_reserves(n, outstandings, reserves);
+// Three figures for each unseen cell.
+fn future_length(n: usize) -> usize
+    requires { ⌜ n ≤ most-accident-years ⌝ }
+    ensures { λ r. ⌜ r ≤ 1584 ⌝ }
+{
+    3 * (n * less(n, 1) / 2)
 }

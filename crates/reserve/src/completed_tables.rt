@@ -1,27 +1,14 @@
-// The completed triangle: observed and projected payments, adjustments and outstandings.
+// The three tables of a completed triangle, each in as many parts as it needs.
 ghost use Prim.Native.Nat.{_≤_};
 ghost use Rattle.method.specs.Limits.{most-accident-years};
-ghost use Rattle.completed.specs.Completed.{CellOfSquare};
-use crate::counts::in_millionths;
-use crate::counts::larger;
-use crate::counts::one_more;
-use crate::printing::print;
-use crate::printing::print_entry;
-use crate::printing::print_label;
-use crate::printing::print_text_entry;
-use crate::printing::signed;
-use completed::shown::Shown;
-use completed::shown::amount_shown;
-use completed::shown::outstanding_shown;
-use figures::writing::amount;
-use figures::writing::whole;
-
-// The three tables of a completed triangle.
-enum Table {
-    Payments,
-    Adjustments,
-    Outstandings,
-}
+use crate::printing::print_empty_line;
+use crate::printing::print_line;
+use tables::completed_rows::Table;
+use tables::completed_rows::completed_column;
+use tables::completed_rows::completed_row;
+use tables::completed_rows::last_in_part;
+use tables::completed_rows::table_title;
+use tables::completed_rows::years_heading;
 
 pub(crate) fn print_completed<'a>(
     n: usize,
@@ -30,11 +17,10 @@ pub(crate) fn print_completed<'a>(
     adjustments: &'a [i64],
     openings: &'a [i64],
     future: &'a [i64],
-)
+) -> bool
     requires { ⌜ (n ≤ most-accident-years) × (cut ≤ most-accident-years) ⌝ }
 {
-    print(b"\nPayments in units (* projected)\n");
-    print_table(
+    if !print_table(
         Table::Payments,
         n,
         cut,
@@ -42,9 +28,10 @@ pub(crate) fn print_completed<'a>(
         adjustments,
         openings,
         future,
-    );
-    print(b"\nAdjustments in units (* projected)\n");
-    print_table(
+    ) {
+        return false;
+    }
+    if !print_table(
         Table::Adjustments,
         n,
         cut,
@@ -52,8 +39,9 @@ pub(crate) fn print_completed<'a>(
         adjustments,
         openings,
         future,
-    );
-    print(b"\nOutstandings at the end of the year, in units (* projected)\n");
+    ) {
+        return false;
+    }
     print_table(
         Table::Outstandings,
         n,
@@ -62,7 +50,7 @@ pub(crate) fn print_completed<'a>(
         adjustments,
         openings,
         future,
-    );
+    )
 }
 
 fn print_table<'a>(
@@ -73,16 +61,60 @@ fn print_table<'a>(
     adjustments: &'a [i64],
     openings: &'a [i64],
     future: &'a [i64],
-)
+) -> bool
     requires { ⌜ (n ≤ most-accident-years) × (cut ≤ most-accident-years) ⌝ }
 {
-    let column = widest(table, n, cut, payments, adjustments, openings, future);
-    print(b"accident year");
-    print_years(n, column);
-    let mut i = 1;
-    while i <= n {
-        print_label(i, 13);
-        print_row(
+    let column = completed_column(table, n, cut, payments, adjustments, openings, future);
+    if !print_empty_line() {
+        return false;
+    }
+    if !print_line(table_title(table)) {
+        return false;
+    }
+    let mut before = 0;
+    while before < n {
+        let last = last_in_part(n, before, column);
+        if !print_part(
+            table,
+            n,
+            cut,
+            payments,
+            adjustments,
+            openings,
+            future,
+            before,
+            last,
+            column,
+        ) {
+            return false;
+        }
+        before = last;
+    }
+    true
+}
+
+// A part, with an empty line before it unless it is the first.
+fn print_part<'a>(
+    table: Table,
+    n: usize,
+    cut: usize,
+    payments: &'a [i64],
+    adjustments: &'a [i64],
+    openings: &'a [i64],
+    future: &'a [i64],
+    before: usize,
+    last: usize,
+    column: usize,
+) -> bool
+    requires { ⌜ (n ≤ most-accident-years) × (cut ≤ most-accident-years) × (last ≤ n) ⌝ }
+{
+    if !print_years(before, last, column) {
+        return false;
+    }
+    let mut i = 0;
+    while i < n {
+        i += 1;
+        let row = completed_row(
             table,
             n,
             cut,
@@ -91,134 +123,24 @@ fn print_table<'a>(
             openings,
             future,
             i,
+            before,
+            last,
             column,
         );
-        i += 1;
-    }
-}
-
-// The width of the widest entry of a table. No heading of a column is as wide as a figure.
-fn widest<'a>(
-    table: Table,
-    n: usize,
-    cut: usize,
-    payments: &'a [i64],
-    adjustments: &'a [i64],
-    openings: &'a [i64],
-    future: &'a [i64],
-) -> usize
-    requires { ⌜ (n ≤ most-accident-years) × (cut ≤ most-accident-years) ⌝ }
-{
-    let mut column = 0;
-    let mut i = 1;
-    while i <= n {
-        column = larger(
-            column,
-            widest_in_row(table, n, cut, payments, adjustments, openings, future, i),
-        );
-        i += 1;
-    }
-    column
-}
-
-fn widest_in_row<'a>(
-    table: Table,
-    n: usize,
-    cut: usize,
-    payments: &'a [i64],
-    adjustments: &'a [i64],
-    openings: &'a [i64],
-    future: &'a [i64],
-    i: usize,
-) -> usize
-    requires { ⌜ (n ≤ most-accident-years) × (cut ≤ most-accident-years) × (1 ≤ i) × (i ≤ n) ⌝ }
-{
-    let mut column = 0;
-    let mut k = 1;
-    while k <= n {
-        let shown = shown_in(table, n, cut, payments, adjustments, openings, future, i, k);
-        column = larger(column, width_of(shown));
-        k += 1;
-    }
-    column
-}
-
-// The width of an entry, with its mark.
-fn width_of(shown: Shown) -> usize {
-    match shown {
-        Shown::Missing => 1,
-        Shown::Observed(units) => {
-            let written = amount(in_millionths(units));
-            written.width
-        }
-        Shown::Projected(millionths) => {
-            let written = amount(millionths);
-            one_more(written.width)
+        if !print_line(row) {
+            return false;
         }
     }
+    true
 }
 
-// The development years, as headings of their columns.
-fn print_years(n: usize, column: usize)
-    requires { ⌜ n ≤ most-accident-years ⌝ }
+fn print_years(before: usize, last: usize, column: usize) -> bool
+    requires { ⌜ last ≤ most-accident-years ⌝ }
 {
-    let mut k = 0;
-    while k < n {
-        print_entry(b"", whole(signed(k + 1)), column);
-        k += 1;
-    }
-    print(b"\n");
-}
-
-fn print_row<'a>(
-    table: Table,
-    n: usize,
-    cut: usize,
-    payments: &'a [i64],
-    adjustments: &'a [i64],
-    openings: &'a [i64],
-    future: &'a [i64],
-    i: usize,
-    column: usize,
-)
-    requires { ⌜ (n ≤ most-accident-years) × (cut ≤ most-accident-years) × (1 ≤ i) × (i ≤ n) ⌝ }
-{
-    let mut k = 1;
-    while k <= n {
-        let shown = shown_in(table, n, cut, payments, adjustments, openings, future, i, k);
-        print_shown(shown, column);
-        k += 1;
-    }
-    print(b"\n");
-}
-
-fn print_shown(shown: Shown, column: usize) {
-    match shown {
-        Shown::Missing => print_text_entry(b"?", column),
-        Shown::Observed(units) => print_entry(b"", amount(in_millionths(units)), column),
-        Shown::Projected(millionths) => print_entry(b"*", amount(millionths), column),
-    }
-}
-
-// What stands in a table for accident year i and development year k.
-fn shown_in<'a>(
-    table: Table,
-    n: usize,
-    cut: usize,
-    payments: &'a [i64],
-    adjustments: &'a [i64],
-    openings: &'a [i64],
-    future: &'a [i64],
-    i: usize,
-    k: usize,
-) -> Shown
-    requires { ⌜ CellOfSquare n i k × (cut ≤ most-accident-years) ⌝ }
-{
-    match table {
-        Table::Payments => amount_shown(n, cut, payments, future, 0, i, k),
-        Table::Adjustments => amount_shown(n, cut, adjustments, future, 1, i, k),
-        Table::Outstandings => {
-            outstanding_shown(n, cut, payments, adjustments, openings, future, i, k)
+    if before > 0 {
+        if !print_empty_line() {
+            return false;
         }
     }
+    print_line(years_heading(before, last, column))
 }

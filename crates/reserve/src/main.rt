@@ -3,15 +3,16 @@
 mod answer;
 mod call;
 mod completed_tables;
-mod counts;
-mod malformed;
-mod messages;
+mod fault;
 mod printing;
-mod refusals;
-mod reserve_table;
-mod sums_table;
+mod refused;
+mod tables_of_answer;
 
-use printing::print;
+use printed::line::line_of;
+use printing::print_line;
+
+// The name of a file has at most as many bytes, and one byte more of 0 after them.
+const LONGEST_NAME: usize = 4095;
 
 fn main() {
     let arguments = os::arg_count();
@@ -20,22 +21,43 @@ fn main() {
     } else if arguments == 2 {
         read_named();
     } else {
-        print(b"usage: reserve [FILE]\n");
+        io::write_all(libc::STDERR_FILENO, b"usage: reserve [FILE]\n");
     }
 }
 
 fn read_named() {
     let mut name = io::buffer();
     let length = os::arg(1, &mut name);
-    let file = os::open_read(&name[..length]);
-    if file < 0 {
-        os::fail(&name[..length]);
+    if os::errno() != 0 {
+        os::fail(b"the name of the file");
         return;
     }
-    read_from(file, &name[..length]);
+    if is_dash(&name[..length]) {
+        io::write_all(
+            libc::STDERR_FILENO,
+            b"-: expected the name of a file; without one, standard input is read\n",
+        );
+        return;
+    }
+    let file = os::open_read(&name[..length]);
+    if file >= 0 {
+        read_from(file, &name[..length]);
+    } else if length > LONGEST_NAME {
+        os::fail(b"the name of the file");
+    } else {
+        os::fail(&name[..length]);
+    }
 }
 
-// A text that is not read to its end is not answered.
+fn is_dash(name: &[u8]) -> bool {
+    if name.len() == 1 {
+        name[0] == b'-'
+    } else {
+        false
+    }
+}
+
+// A text that is not read to its end is not answered. What cannot be written is said once, with the system's reason.
 fn read_from(file: i32, name: &[u8]) {
     let mut text = io::large_buffer();
     let length = io::read_full(file, &mut text);
@@ -46,8 +68,14 @@ fn read_from(file: i32, name: &[u8]) {
         return;
     }
     if beyond > 0 {
-        print(b"refused: expected a text of at most 65,536 bytes\n");
+        say_unless(print_line(line_of(b"refused: expected a text of at most 65,536 bytes")));
         return;
     }
-    answer::answer(&text[..length]);
+    say_unless(answer::answer(&text[..length]));
+}
+
+fn say_unless(written: bool) {
+    if !written {
+        os::fail(b"standard output");
+    }
 }

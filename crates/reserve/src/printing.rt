@@ -1,63 +1,28 @@
-// What is printed: texts, numbers and the entries of a table.
-use crate::counts::less;
-use figures::writing::Written;
-use figures::writing::whole;
+// Lines that are printed. Each function answers whether its lines were written, and prints nothing after the first that was not.
 use libc::STDOUT_FILENO;
+use printed::counts::less;
+use printed::line::Line;
+use printed::line::with_byte;
 
-pub(crate) fn print(text: &[u8]) {
-    io::write_all(STDOUT_FILENO, text);
+pub(crate) fn print_line(line: Line) -> bool {
+    let ended = with_byte(line, b'\n');
+    let bytes = ended.bytes;
+    print_first(&bytes, ended.length)
 }
 
-pub(crate) fn print_whole(number: i64) {
-    print_written(whole(number));
+fn print_first(bytes: &[u8], length: usize) -> bool {
+    let end = less(bytes.len(), less(bytes.len(), length));
+    io::write_all(STDOUT_FILENO, &bytes[0..end])
 }
 
-// A count is no larger than a list can be long.
-pub(crate) fn signed(count: usize) -> i64 {
-    if count < 9_223_372_036_854_775_807 {
-        count as i64
+pub(crate) fn print_empty_line() -> bool {
+    io::write_all(STDOUT_FILENO, b"\n")
+}
+
+pub(crate) fn print_two(first: Line, second: Line) -> bool {
+    if print_line(first) {
+        print_line(second)
     } else {
-        9_223_372_036_854_775_807
+        false
     }
-}
-
-// An entry of a table, set to the right: a mark and a figure, two spaces before the column.
-pub(crate) fn print_entry(mark: &[u8], written: Written, column: usize) {
-    print(b"  ");
-    print_spaces(less(less(column, mark.len()), written.width));
-    print(mark);
-    print_written(written);
-}
-
-// A text as an entry.
-pub(crate) fn print_text_entry(text: &[u8], column: usize) {
-    print(b"  ");
-    print_spaces(less(column, text.len()));
-    print(text);
-}
-
-// The label of a row, as wide as the heading of its column.
-pub(crate) fn print_label(number: usize, column: usize) {
-    let written = whole(signed(number));
-    print_spaces(less(column, written.width));
-    print_written(written);
-}
-
-fn print_spaces(count: usize) {
-    let mut left = count;
-    while left > 0 {
-        print(b" ");
-        left -= 1;
-    }
-}
-
-// A figure stands at the end of its bytes.
-fn print_written(written: Written) {
-    let bytes = written.bytes;
-    print_last(&bytes, written.width);
-}
-
-fn print_last(bytes: &[u8], width: usize) {
-    let start = less(bytes.len(), width);
-    print(&bytes[start..]);
 }

@@ -5,7 +5,7 @@ use Prim.Native.Nat.{ℕ, _+_, _-_, _≤_}
 use native.Mathlib.Omega.{arith}
 use lib.IntN.{pos}
 use mir.Syntax.{w64}
-use mir.Val.{toZ, ofZ}
+use mir.Val.{SFits, toZ, ofZ}
 use Rattle.integers.proofs.MachineArithmetic.{held}
 use Rattle.method.specs.Triangle.{cell}
 use Rattle.completed.specs.Completed.{of-lists, MovedTo, OutstandingAt}
@@ -14,7 +14,8 @@ use Rattle.completed.proofs.outstanding.outstanding_at.Statement.{state
 use Rattle.completed.proofs.outstanding.outstanding_at.Tie as tie
 
 abbrev Inv-loop : tie.InvT-loop
-Inv-loop n payments adjustments openings i k outstanding₀ j₀ outstanding j = (j ≤ k) × OutstandingAt (of-lists n payments adjustments openings) i j (toZ w64 outstanding)
+Inv-loop n payments adjustments openings i k outstanding₀ j₀ outstanding j =
+    (j ≤ k) × SFits w64 (toZ w64 outstanding) × OutstandingAt (of-lists n payments adjustments openings) i j (toZ w64 outstanding)
 
 abbrev μ-loop : tie.MeasureT-loop
 μ-loop n payments adjustments openings i k outstanding₀ j₀ outstanding j = k - j
@@ -27,7 +28,8 @@ opening-of-requires c κs = search needs
 
 loop-holds : tie.Need-loop-holds Inv-loop μ-loop
 loop-holds c =
-    (omega arith, before-first-year _ _ _ (c .before .pre .first) (held (c .opening-of .result) (c .opening-of .ok) ∙ c .opening-of .ensures))
+    let opening = held (c .opening-of .result) (c .opening-of .ok) in
+    (omega arith, rw opening (record { sfits = c .opening-of .ok }), before-first-year _ _ _ (c .before .pre .first) (opening ∙ c .opening-of .ensures))
 
 add-j : tie.Need-add-j Inv-loop μ-loop
 add-j c = search needs
@@ -57,7 +59,9 @@ movement c =
     (simp (held (payment .result) (payment .ok) ∙ payment .ensures, held (adjustment .result) (adjustment .ok) ∙ adjustment .ensures) at (c .moved .ensures))
 
 loop-again : tie.Need-loop-again Inv-loop μ-loop
-loop-again c = (omega arith, next-year _ _ _ (c .before .before .before .before .loop .inv .1) (movement c))
+loop-again c =
+    let so-far = c .before .before .before .before .loop .inv in
+    (omega arith, rw (held (c .moved .result) (c .moved .ok)) (record { sfits = c .moved .ok }), next-year _ _ _ (so-far .1) (so-far .2) (movement c))
 
 returns : tie.Need-returns Inv-loop μ-loop
 returns c =
@@ -65,7 +69,7 @@ returns c =
     let l = c .before .loop in
     let last : l .j ≡ a .k = omega arith in
     let t = of-lists (a .n) (a .payments .now) (a .adjustments .now) (a .openings .now) in
-    subst (λ (year : ℕ). OutstandingAt t (a .i) year (toZ w64 (l .outstanding))) last (l .inv .1)
+    subst (λ (year : ℕ). OutstandingAt t (a .i) year (toZ w64 (l .outstanding))) last (l .inv .2)
 
 pub outstanding-at-spec : {M : Type 1} → statement M
 outstanding-at-spec =

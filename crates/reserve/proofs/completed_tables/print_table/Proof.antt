@@ -1,38 +1,44 @@
--- Every row is one of the square, and each turn leaves one row less.
-use Prim.Native.Nat.{_+_, _-_, _≤_}
+-- Each part has one year at least, so that each turn leaves fewer.
 use borrow.Author.Needs.{needs}
+use Prim.Native.Nat.{_-_, _≤_}
 use Rattle.reserve.proofs.completed_tables.print_table.Statement.{statement}
 use Rattle.reserve.proofs.completed_tables.print_table.Tie as tie
 
 abbrev Inv-loop : tie.InvT-loop
-Inv-loop table n cut payments adjustments openings future column i₀ i = (n ≤ 32) × (cut ≤ 32) × (1 ≤ i)
+Inv-loop table n cut payments adjustments openings future column before₀ before = (n ≤ 32) × (cut ≤ 32)
 
 abbrev μ-loop : tie.MeasureT-loop
-μ-loop table n cut payments adjustments openings future column i₀ i = n + 1 - i
+μ-loop table n cut payments adjustments openings future column before₀ before = n - before
 
-widest-requires : tie.Need-widest-requires Inv-loop μ-loop
-widest-requires c κs = search needs
+completed-column-requires : tie.Need-completed-column-requires Inv-loop μ-loop
+completed-column-requires c κs = search needs
 
-slice-aggregate-print : tie.Need-slice-aggregate-print Inv-loop μ-loop
-slice-aggregate-print c = search needs
+print-empty-line-requires : tie.Need-print-empty-line-requires Inv-loop μ-loop
+print-empty-line-requires c κs = search needs
 
-print-requires : tie.Need-print-requires Inv-loop μ-loop
-print-requires c κs = search needs
+returns : tie.Need-returns Inv-loop μ-loop
+returns c = search needs
 
-print-years-requires : tie.Need-print-years-requires Inv-loop μ-loop
-print-years-requires c κs = search needs
+table-title-requires : tie.Need-table-title-requires Inv-loop μ-loop
+table-title-requires c κs = search needs
+
+print-line-requires : tie.Need-print-line-requires Inv-loop μ-loop
+print-line-requires c κs = search needs
+
+returns-2 : tie.Need-returns-2 Inv-loop μ-loop
+returns-2 c = search needs
 
 loop-holds : tie.Need-loop-holds Inv-loop μ-loop
 loop-holds c = search needs
 
-print-label-requires : tie.Need-print-label-requires Inv-loop μ-loop
-print-label-requires c κs = search needs
+last-in-part-requires : tie.Need-last-in-part-requires Inv-loop μ-loop
+last-in-part-requires c κs = search needs
 
-print-row-requires : tie.Need-print-row-requires Inv-loop μ-loop
-print-row-requires c κs = search needs
+print-part-requires : tie.Need-print-part-requires Inv-loop μ-loop
+print-part-requires c κs = search needs
 
-add-i : tie.Need-add-i Inv-loop μ-loop
-add-i c = search needs
+returns-3 : tie.Need-returns-3 Inv-loop μ-loop
+returns-3 c = search needs
 
 loop-less : tie.Need-loop-less Inv-loop μ-loop
 loop-less c = search needs
@@ -40,8 +46,8 @@ loop-less c = search needs
 loop-again : tie.Need-loop-again Inv-loop μ-loop
 loop-again c = search needs
 
-returns : tie.Need-returns Inv-loop μ-loop
-returns c = search needs
+returns-4 : tie.Need-returns-4 Inv-loop μ-loop
+returns-4 c = search needs
 
 pub print-table-spec : {M : Type 1} → statement M
 print-table-spec =
@@ -49,14 +55,16 @@ print-table-spec =
     (tie.spec
     Inv-loop
     μ-loop
-    widest-requires
-    slice-aggregate-print
-    print-requires
-    print-years-requires
+    completed-column-requires
+    print-empty-line-requires
+    returns
+    table-title-requires
+    print-line-requires
+    returns-2
     loop-holds
-    print-label-requires
-    print-row-requires
-    add-i
+    last-in-part-requires
+    print-part-requires
+    returns-3
     loop-less
     loop-again
-    returns)
+    returns-4)

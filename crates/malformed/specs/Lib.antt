@@ -1,0 +1,4 @@
+-- The messages on malformed texts.
+pub mod ShownText
+pub mod Messages
+pub mod Examples

@@ -1,0 +1,102 @@
+-- Every line on a refusal has room: nothing of it is cut off, whatever its numbers are.
+use mathlib.Core.Path.{refl}
+use mathlib.Core.Bool.{Bool, cond}
+use mathlib.Core.List.{List}
+use Prim.Native.Nat.{ℕ, _≤_}
+use lib.Dec.{eqb}
+use lib.IntN.{ℤ, pos, negℤ}
+use lib.ListN.{length}
+use lib.Signed.{ltZ}
+use Rattle.method.specs.Limits.{greatest-amount}
+use Rattle.method.specs.Tests.{from-to}
+use Rattle.printed.specs.Filling.{places}
+use Rattle.printed.proofs.Room.{one-of-two, filled-fits}
+use Rattle.refusals.specs.declared.found.Lent.{Lent}
+use Rattle.refusals.specs.declared.found.Found.{Found}
+use Rattle.refusals.specs.Sentences.{refused-line, years-sentence, cut-sentence, lengths-sentence, weight-sentence, weight-not-0-sentence, payment-sentence, adjustment-sentence, opening-sentence, outstanding-sentence, exposure-sentence, projected-sentence, seen-cell-sentence, amounts-sentence, observed-sentence, sentence, see-line, see-lines}
+
+-- the text of one of two lines
+either : (b : Bool) (x y : List ℕ) → length x ≤ 512 → length y ≤ 512 → length (cond b x y) ≤ 512
+either = one-of-two length 512
+
+pub refused-line-fits : (question : ℕ) (i k : ℤ) → length (refused-line question i k) ≤ 512
+unfolding refused-line places
+refused-line-fits question i k = filled-fits 512 _ _ refl
+
+years-fits : (years : ℤ) → length (years-sentence years) ≤ 512
+unfolding years-sentence places
+years-fits years = filled-fits 512 _ _ refl
+
+cut-fits : (cut years : ℤ) → length (cut-sentence cut years) ≤ 512
+unfolding cut-sentence places
+cut-fits cut years = filled-fits 512 _ _ refl
+
+lengths-fits : (lent : Lent) → length (lengths-sentence lent) ≤ 512
+unfolding lengths-sentence places
+lengths-fits lent = filled-fits 512 _ _ refl
+
+module _ (i k : ℤ) where
+  weight-fits : (x : ℤ) → length (weight-sentence i k x) ≤ 512
+  unfolding weight-sentence places
+  weight-fits x = filled-fits 512 _ _ refl
+
+  weight-not-0-fits : (x : ℤ) → length (weight-not-0-sentence i k x) ≤ 512
+  unfolding weight-not-0-sentence places
+  weight-not-0-fits x = filled-fits 512 _ _ refl
+
+  payment-fits : (x : ℤ) → length (payment-sentence i k x) ≤ 512
+  unfolding payment-sentence places
+  payment-fits x = either (from-to (negℤ greatest-amount) greatest-amount x) _ _ (filled-fits 512 _ _ refl) (filled-fits 512 _ _ refl)
+
+  adjustment-fits : (x : ℤ) → length (adjustment-sentence i k x) ≤ 512
+  unfolding adjustment-sentence places
+  adjustment-fits x = either (from-to (negℤ greatest-amount) greatest-amount x) _ _ (filled-fits 512 _ _ refl) (filled-fits 512 _ _ refl)
+
+  opening-fits : (x : ℤ) → length (opening-sentence i k x) ≤ 512
+  unfolding opening-sentence places
+  opening-fits x = filled-fits 512 _ _ refl
+
+  outstanding-fits : (x : ℤ) → length (outstanding-sentence i k x) ≤ 512
+  unfolding outstanding-sentence places
+  outstanding-fits x = either (ltZ x (pos 0)) _ _ (filled-fits 512 _ _ refl) (filled-fits 512 _ _ refl)
+
+  projected-fits : length (projected-sentence i k) ≤ 512
+  unfolding projected-sentence places
+  projected-fits = filled-fits 512 _ _ refl
+
+  seen-cell-fits : length (seen-cell-sentence i k) ≤ 512
+  unfolding seen-cell-sentence places
+  seen-cell-fits = filled-fits 512 _ _ refl
+
+  amounts-fit : (found : Found) → length (amounts-sentence i k found) ≤ 512
+  unfolding amounts-sentence
+  amounts-fit found = either (found .«payment_right») _ _ (adjustment-fits (found .adjustment)) (payment-fits (found .payment))
+
+  observed-fits : (found : Found) → length (observed-sentence i k found) ≤ 512
+  unfolding observed-sentence
+  observed-fits found = either (found .opening) _ _ (opening-fits (found .outstanding)) (outstanding-fits (found .outstanding))
+
+exposure-fits : (k : ℤ) → length (exposure-sentence k) ≤ 512
+unfolding exposure-sentence places
+exposure-fits k = filled-fits 512 _ _ refl
+
+pub sentence-fits : (question : ℕ) (i k : ℤ) (lent : Lent) (found : Found) → length (sentence question i k lent found) ≤ 512
+unfolding sentence
+sentence-fits question i k lent found =
+    either (eqb question 1) _ _ (years-fits (lent .years))
+    (either (eqb question 2) _ _ (cut-fits (lent .cut) (lent .years))
+    (either (eqb question 3) _ _ (lengths-fits lent)
+    (either (eqb question 4) _ _ (weight-fits i k (found .weight))
+    (either (eqb question 5) _ _ (amounts-fit i k found)
+    (either (eqb question 6) _ _ (observed-fits i k found)
+    (either (eqb question 7) _ _ (weight-not-0-fits i k (found .weight))
+    (either (eqb question 8) _ _ (exposure-fits k)
+    (either (eqb question 9) _ _ (projected-fits i k) (seen-cell-fits (lent .«accident_year») (lent .«development_year»))))))))))
+
+pub see-line-fits : (line : ℕ) → length (see-line line) ≤ 512
+unfolding see-line places
+see-line-fits line = filled-fits 512 _ _ refl
+
+pub see-lines-fits : (first second : ℕ) → length (see-lines first second) ≤ 512
+unfolding see-lines places
+see-lines-fits first second = filled-fits 512 _ _ refl

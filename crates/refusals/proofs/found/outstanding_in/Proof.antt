@@ -1,0 +1,28 @@
+-- By whether there is such a cell.
+use borrow.Author.Needs.{needs}
+use mathlib.Core.Path.{sym, _∙_}
+use native.Mathlib.Omega.{arith}
+use Rattle.integers.proofs.MachineArithmetic.{held}
+use Rattle.refusals.proofs.Places.{cell-of-square, no-cell}
+use Rattle.refusals.proofs.found.outstanding_in.Statement.{statement}
+use Rattle.refusals.proofs.found.outstanding_in.Tie as tie
+
+in-square-requires : tie.Need-in-square-requires
+in-square-requires c κs = search needs
+
+outstanding-at-requires : tie.Need-outstanding-at-requires
+outstanding-at-requires c κs =
+    let args = c .before .before .args in
+    cell-of-square (args .n) (args .i) (args .k) (omega arith) (sym (c .before .in-square .ensures) ∙ c .if1 .taken)
+
+returns : tie.Need-returns
+returns c = record { is = λ cell. rw (held (c .outstanding-at .result) (c .outstanding-at .ok)) (c .outstanding-at .ensures) }
+
+returns-2 : tie.Need-returns-2
+returns-2 c =
+    let args = c .before .before .args in
+    record { is = no-cell (args .n) (args .i) (args .k) (sym (c .before .in-square .ensures) ∙ c .if1 .left) }
+
+pub outstanding-in-spec : {M : Type 1} → statement M
+outstanding-in-spec =
+    tie.close (tie.spec in-square-requires outstanding-at-requires returns returns-2)

@@ -1,0 +1,55 @@
+-- By whether the amount is within the limit.
+use borrow.Author.Needs.{needs}
+use mathlib.Core.Path.{sym, _∙_}
+use mir.Syntax.{w64}
+use mir.Facts.{toZ-ofZ}
+use Rattle.refusals.specs.Sentences.{payment-sentence}
+use Rattle.refusals.proofs.sentences.payment_sentence.Statement.{statement}
+use Rattle.refusals.proofs.sentences.payment_sentence.Tie as tie
+
+sub-from-to : tie.Need-sub-from-to
+sub-from-to c = search needs
+
+from-to-requires : tie.Need-from-to-requires
+from-to-requires c κs = search needs
+
+slice-aggregate-filled-3 : tie.Need-slice-aggregate-filled-3
+slice-aggregate-filled-3 c = search needs
+
+filled-3-requires : tie.Need-filled-3-requires
+filled-3-requires c κs = search needs
+
+returns : tie.Need-returns
+unfolding payment-sentence
+returns c =
+    let tested = c .before .before .before in
+    let start = tested .before in
+    let within = simp (toZ-ofZ {w = w64} (start .fits .x)) at (tested .from-to .ensures) in
+    rw (sym within ∙ c .before .before .if1 .taken) (simp (toZ-ofZ {w = w64} (start .fits .i), toZ-ofZ {w = w64} (start .fits .k), toZ-ofZ {w = w64} (start .fits .x)) at (c .filled-3 .ensures))
+
+slice-aggregate-filled-3-2 : tie.Need-slice-aggregate-filled-3-2
+slice-aggregate-filled-3-2 c = search needs
+
+filled-3-requires-2 : tie.Need-filled-3-requires-2
+filled-3-requires-2 c κs = search needs
+
+returns-2 : tie.Need-returns-2
+unfolding payment-sentence
+returns-2 c =
+    let tested = c .before .before .before in
+    let start = tested .before in
+    let beyond = simp (toZ-ofZ {w = w64} (start .fits .x)) at (tested .from-to .ensures) in
+    rw (sym beyond ∙ c .before .before .if1 .left) (simp (toZ-ofZ {w = w64} (start .fits .i), toZ-ofZ {w = w64} (start .fits .k), toZ-ofZ {w = w64} (start .fits .x)) at (c .filled-32 .ensures))
+
+pub payment-sentence-spec : {M : Type 1} → statement M
+payment-sentence-spec =
+    tie.close
+    (tie.spec
+    sub-from-to
+    from-to-requires
+    slice-aggregate-filled-3
+    filled-3-requires
+    returns
+    slice-aggregate-filled-3-2
+    filled-3-requires-2
+    returns-2)

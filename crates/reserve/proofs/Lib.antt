@@ -1,2 +1,0 @@
--- Laws that serve several functions.
-pub mod Ranges

@@ -1,0 +1,2 @@
+-- What is printed of how a triangle was read.
+pub mod Accepted

@@ -1,0 +1,64 @@
+// The entries of a table's line.
+ghost use mathlib.Core.List.{_++_};
+ghost use Prim.Native.Nat.{_-_};
+ghost use lib.ListN.{length, drop, replicate};
+ghost use Rattle.figures.specs.Writing.{space};
+ghost use Rattle.printed.specs.Line.{After};
+use figures::writing::Written;
+use figures::writing::amount;
+use figures::writing::whole;
+use printed::counts::less;
+use printed::counts::signed;
+use printed::line::Line;
+use printed::line::empty;
+use printed::line::with_spaces;
+use printed::line::with_text;
+use printed::line::with_written;
+
+// An entry, set to the right: two spaces before the column, then a mark and a figure.
+pub(crate) fn with_entry(line: Line, mark: &[u8], written: Written, column: usize) -> Line
+    ensures { λ r. ⌜ After line
+        (replicate 2 space ++ (replicate (column - length (now (mark .entry)) - written .width) space ++ (now (mark .entry) ++ drop (32 - written .width) (written .bytes))))
+        r ⌝ }
+{
+    let spaces = less(less(column, mark.len()), written.width);
+    with_written(
+        with_text(with_spaces(with_spaces(line, 2), spaces), mark),
+        written,
+    )
+}
+
+// A text as an entry.
+pub(crate) fn with_text_entry(line: Line, text: &[u8], column: usize) -> Line
+    ensures { λ r. ⌜ After line (replicate 2 space ++ (replicate (column - length (now (text .entry))) space ++ now (text .entry))) r ⌝ }
+{
+    with_text(
+        with_spaces(with_spaces(line, 2), less(column, text.len())),
+        text,
+    )
+}
+
+// A whole number as an entry, and an amount in millionths.
+pub(crate) fn with_whole(line: Line, number: i64, column: usize) -> Line {
+    with_entry(line, b"", whole(number), column)
+}
+
+pub(crate) fn with_amount(line: Line, millionths: i64, column: usize) -> Line {
+    with_entry(line, b"", amount(millionths), column)
+}
+
+pub(crate) fn whole_width(number: i64) -> usize {
+    let written = whole(number);
+    written.width
+}
+
+pub(crate) fn amount_width(millionths: i64) -> usize {
+    let written = amount(millionths);
+    written.width
+}
+
+// The label of a row, as wide as the heading of its column.
+pub(crate) fn label(number: usize, column: usize) -> Line {
+    let written = whole(signed(number));
+    with_written(with_spaces(empty(), less(column, written.width)), written)
+}
