@@ -20,7 +20,7 @@ LIMIT = 1_000_000_000
 FAULTLESS, REFUSED, MISTAKEN = 0.35, 0.25, 0.25  # the parts of the texts; the rest is mutated
 TELLING_NUMBERS = [LEAST, LEAST + 1, -LIMIT - 1, -LIMIT, -1, 0, 1, 100, 101, LIMIT, LIMIT + 1, GREATEST - 1, GREATEST]
 TELLING_CELLS = [
-    "#REF!", "#N/A", "#DIV/0!", "####", "#", "# 5", "#5", "5# net", '"100"', '"1,000"', '""', '"', "(40)", "(1,000)", "\N{MINUS SIGN}40", "\N{EN DASH}40",
+    "#REF!", "#N/A", "#DIV/0!", "####", "#", "# 5", "#5", "5# net", '"100"', '"1,000"', '"1,000', '" 1,0 "5', '""', '"', "(40)", "(1,000)", "\N{MINUS SIGN}40", "\N{EN DASH}40",
     "NA", "n/a", "ten", "e", "1E+06", "-1e6", "5 E", "100.00", "1,000", "1.000", "1'000", "1 000", "1\N{NO-BREAK SPACE}000", "+5", "--5", "-", ".", "5\t6",
     "", "-0", "007", "9" * 19, "-" + "9" * 40, "x" * 40, "7" * 39 + ".", "7" * 40 + ".", "\x01\x7f", "*", "?",
 ]

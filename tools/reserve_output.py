@@ -29,9 +29,10 @@ INCREMENTAL = [b"incremental"]
 
 sys.set_int_max_str_digits(0)  # a text may hold a number of thousands of digits, which is then refused by name
 
-# The content of a line has no comment, and no spaces around it. The words of a line that is no heading are None.
+# The content of a line has no comment, and no spaces around it. The cells are also as a message shows them.
+# The words of a line that is no heading are None.
 # A block is a heading with the words after its first and the rows under it.
-Line = namedtuple("Line", "number content cells words")
+Line = namedtuple("Line", "number content cells shown_cells words")
 Block = namedtuple("Block", "heading words rows")
 Triangle = namedtuple("Triangle", "n cut payments adjustments weights openings")
 
@@ -76,14 +77,14 @@ ADVICE_ON_FIGURES = [
 
 def malformed(expected, line, k=None):
     """Refuses a line, or its cell k."""
-    met = line.content if k is None else cell_of(line, k)
+    met = line.content if k is None else cell_of(line.shown_cells, k)
     place = f"line {line.number:,}" if k is None else f"line {line.number:,}, cell {k:,}"
     raise Refused("\n".join([f"refused: {place}: expected {expected}, and met {shown(met)}"] + advice(expected, met)))
 
 
-def cell_of(line, k):
+def cell_of(cells, k):
     """Cells that a line lacks at its end are blank."""
-    return line.cells[k - 1] if k <= len(line.cells) else b""
+    return cells[k - 1] if k <= len(cells) else b""
 
 
 def shown(met):
@@ -137,9 +138,18 @@ def read_lines(text):
     separator = separator_of(lines)
     numbered = [(number, line.strip(b" ")) for number, line in enumerate(lines, 1)]
     return [
-        Line(number, content, [cell.strip(b" ") for cell in content.split(separator)], words_of(content, separator))
+        Line(number, content, *cells_of(content, separator), words_of(content, separator))
         for number, content in numbered if content
     ]
+
+
+def cells_of(content, separator):
+    """The cells, and the same as they are shown: one that begins with a double quote goes on to the next double quote."""
+    fields = content.split(separator)
+    cells = [field.strip(b" ") for field in fields]
+    rests = [separator.join(fields[at:]).lstrip(b" ") for at in range(len(fields))]
+    quoted = [re.match(rb'"[^"]*"', rest) for rest in rests]
+    return cells, [found.group() if found else cell for found, cell in zip(quoted, cells)]
 
 
 def words_of(content, separator):
@@ -162,7 +172,7 @@ def has_64_bits(number):
 
 def read_number(line, k):
     """The number in cell k of a line."""
-    cell = cell_of(line, k)
+    cell = cell_of(line.cells, k)
     if not cell:
         malformed("a whole number, for only a missing cell is blank", line, k)
     number = whole_number(cell)
@@ -256,7 +266,7 @@ def read_row(line, i, length, cut, cumulated):
     """The row's numbers, or what each adds to the one before."""
     numbers, before = [], 0
     for k in range(1, length + 1):
-        if i + k <= cut and not cell_of(line, k):
+        if i + k <= cut and not cell_of(line.cells, k):
             numbers.append(0)
             continue
         number = read_number(line, k)
@@ -265,7 +275,7 @@ def read_row(line, i, length, cut, cumulated):
         numbers.append(number - before)
         before = number if cumulated else 0
     for k in range(length + 1, len(line.cells) + 1):
-        if cell_of(line, k):
+        if cell_of(line.cells, k):
             malformed("nothing, for the row ends before this cell", line, k)
     return numbers
 

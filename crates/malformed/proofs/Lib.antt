@@ -1,4 +1,5 @@
--- The laws of a text that is shown byte by byte; the room of every message; the worked examples.
+-- The laws of a text that is shown byte by byte, and of one in double quotes; the room of every message; the worked examples.
 pub mod ShownTexts
+pub mod QuotedTexts
 pub mod MessageRoom
 pub mod Examples

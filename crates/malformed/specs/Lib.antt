@@ -1,4 +1,5 @@
 -- The messages on malformed texts.
 pub mod ShownText
 pub mod Messages
+pub mod Met
 pub mod Examples

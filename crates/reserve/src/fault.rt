@@ -3,20 +3,12 @@ use crate::printing::print_line;
 use crate::printing::print_two;
 use malformed::messages::advice;
 use malformed::messages::fault_line;
-use text::cells::cell_at;
-use text::cells::separator_of;
-use text::cells::trimmed;
-use text::lines::line_at;
+use malformed::met::met_at;
 use triangle_text::faults::Expected;
 use triangle_text::reading::without_mark;
 
-pub(crate) fn print_fault(bytes: &[u8], line: usize, cell: usize, expected: Expected) -> bool {
-    let text = without_mark(bytes);
-    let met = line_at(text, line);
-    if cell == 0 {
-        return print_fault_at(line, cell, expected, trimmed(met));
-    }
-    print_fault_at(line, cell, expected, cell_at(met, separator_of(text), cell))
+pub(crate) fn print_fault(text: &[u8], line: usize, cell: usize, expected: Expected) -> bool {
+    print_fault_at(line, cell, expected, met_at(without_mark(text), line, cell))
 }
 
 // Where the fault is, what was expected there and what was met, and what to do about it, where there is something to say.

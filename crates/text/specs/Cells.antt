@@ -1,7 +1,7 @@
 -- The cells of a line, without the spaces around them, and the byte that separates them.
 use mathlib.Core.Bool.{Bool, true, false, _&&_, cond}
 use mathlib.Core.List.{List, [], _∷_}
-use Prim.Native.Nat.{ℕ, zero, suc, _-_}
+use Prim.Native.Nat.{ℕ, zero, suc}
 use lib.Dec.{eqb}
 use lib.ListN.{drop}
 use Rattle.text.specs.Bytes.{space, comma}
@@ -49,11 +49,10 @@ first-cell separator rest = trimmed (before (Byte separator) rest)
 abbrev pub after-cell : ℕ → List ℕ → List ℕ
 after-cell separator rest = drop 1 (from (Byte separator) rest)
 
--- The field of this number, counted from 0, as it stands between separators; empty where there are fewer.
-unfoldable pub field : ℕ → ℕ → List ℕ → List ℕ
-field separator zero text = before (Byte separator) text
-field separator (suc number) text = field separator number (after-cell separator text)
+-- A text from the field of this number on, counted from 0; empty where there are fewer. The field as it stands between separators.
+unfoldable pub from-field : ℕ → ℕ → List ℕ → List ℕ
+from-field separator zero text = text
+from-field separator (suc number) text = from-field separator number (after-cell separator text)
 
--- The cell of this number, counted from 1; empty where there are fewer.
-abbrev pub cell-of : ℕ → ℕ → List ℕ → List ℕ
-cell-of separator number line = trimmed (field separator (number - 1) line)
+abbrev pub field : ℕ → ℕ → List ℕ → List ℕ
+field separator number text = before (Byte separator) (from-field separator number text)

@@ -41,9 +41,9 @@ pub fn first_cell_length(rest: &[u8], separator: u8) -> usize
     if end < rest.len() { end + 1 } else { end }
 }
 
-// A field of a text, counted from 0, as it stands between separators; empty where there are fewer.
-pub fn field(text: &[u8], separator: u8, number: usize) -> &[u8]
-    ensures { λ r. ⌜ now r ≡ meaning.field separator number (now (text .entry)) ⌝ }
+// A text from one of its fields on, which separators part and which count from 0; empty where there are fewer.
+pub fn from_field(text: &[u8], separator: u8, number: usize) -> &[u8]
+    ensures { λ r. ⌜ now r ≡ meaning.from-field separator number (now (text .entry)) ⌝ }
 {
     let mut start = 0;
     let mut left = number;
@@ -51,18 +51,16 @@ pub fn field(text: &[u8], separator: u8, number: usize) -> &[u8]
         start += first_cell_length(&text[start..], separator);
         left -= 1;
     }
-    let end = start + find(&text[start..], Sought::Byte(separator));
-    &text[start..end]
+    &text[start..]
 }
 
-// A cell of a line, counted from 1, without the spaces around it; empty where there are fewer.
-pub fn cell_at(line: &[u8], separator: u8, number: usize) -> &[u8]
-    ensures { λ r. ⌜ now r ≡ meaning.cell-of separator number (now (line .entry)) ⌝ }
+// A field as it stands between separators.
+pub fn field(text: &[u8], separator: u8, number: usize) -> &[u8]
+    ensures { λ r. ⌜ now r ≡ meaning.field separator number (now (text .entry)) ⌝ }
 {
-    if number == 0 {
-        return trimmed(field(line, separator, 0));
-    }
-    trimmed(field(line, separator, number - 1))
+    let rest = from_field(text, separator, number);
+    let end = find(rest, Sought::Byte(separator));
+    &rest[0..end]
 }
 
 // A text without the spaces around it.

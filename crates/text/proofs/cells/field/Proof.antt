@@ -1,125 +1,43 @@
--- The field sought is, in what is left of the text, the one of the number that is left; each turn passes one field.
-use mathlib.Core.Path.{_≡_, refl, _∙_}
-use mathlib.Core.List.{List}
-use Prim.Native.Nat.{ℕ, _+_, _≤_}
-use native.Mathlib.Omega.{arith}
+-- What stands before the separator, from the field on.
+use mathlib.Core.Path.{ap, _∙_}
 use borrow.Author.Needs.{needs}
-use lib.ListN.{length, drop}
-use Rattle.text.specs.Cells.{field}
+use Rattle.text.specs.Search.{before}
 use Rattle.text.specs.declared.search.Sought.the-variants.{Byte}
-use Rattle.text.proofs.Searches.{found-within-rest, part-before-found-in-rest}
-use Rattle.text.proofs.Fields.{field-passed-within, field-passed, first-field}
+use Rattle.text.proofs.Searches.{found-within, part-before-found}
 use Rattle.text.proofs.cells.field.Statement.{statement}
 use Rattle.text.proofs.cells.field.Tie as tie
 
-abbrev Inv-loop : tie.InvT-loop
-Inv-loop text separator number start₀ left₀ start left =
-    (start ≤ length text) × (field separator left (drop start text) ≡ field separator number text)
+from-field-requires : tie.Need-from-field-requires
+from-field-requires c κs = search needs
 
-abbrev μ-loop : tie.MeasureT-loop
-μ-loop text separator number start₀ left₀ start left = left
-
-abbrev text : tie.At-loop Inv-loop μ-loop → List ℕ
-text turn = turn .before .before .args .text .now
-
-abbrev separator : tie.At-loop Inv-loop μ-loop → ℕ
-separator turn = turn .before .before .args .separator
-
-loop-holds : tie.Need-loop-holds Inv-loop μ-loop
-loop-holds c = (omega arith, refl)
-
-sub-first-cell-length : tie.Need-sub-first-cell-length Inv-loop μ-loop
-sub-first-cell-length c = search needs
-
-part-first-cell-length-start : tie.Need-part-first-cell-length-start Inv-loop μ-loop
-part-first-cell-length-start c = search needs
-
-part-first-cell-length-end : tie.Need-part-first-cell-length-end Inv-loop μ-loop
-part-first-cell-length-end c = search needs
-
-first-cell-length-requires : tie.Need-first-cell-length-requires Inv-loop μ-loop
-first-cell-length-requires c κs = search needs
-
-passed-within : (c : tie.After-first-cell-length Inv-loop μ-loop) → let turn = c .before .before .before in
-    turn .loop .start + c .first-cell-length .result ≤ length (text turn)
-passed-within c =
-    let turn = c .before .before .before in
-    field-passed-within (separator turn) (text turn) (turn .loop .start) (c .first-cell-length .result) (turn .loop .inv .0) (c .first-cell-length .ensures)
-
-add-start : tie.Need-add-start Inv-loop μ-loop
-add-start c = let h = passed-within c in search needs
-
-sub-left : tie.Need-sub-left Inv-loop μ-loop
-sub-left c = search needs
-
-loop-less : tie.Need-loop-less Inv-loop μ-loop
-loop-less c = search needs
-
-loop-again : tie.Need-loop-again Inv-loop μ-loop
-loop-again c =
-    let turn = c .before .before .before in (
-      passed-within c,
-      field-passed (separator turn) (text turn) (turn .loop .start) (c .first-cell-length .result) (turn .loop .inv .0) (c .first-cell-length .ensures)
-          (turn .loop .left) (omega arith) ∙ turn .loop .inv .1,
-    )
-
-sub-find : tie.Need-sub-find Inv-loop μ-loop
-sub-find c = search needs
-
-part-find-start : tie.Need-part-find-start Inv-loop μ-loop
-part-find-start c = search needs
-
-part-find-end : tie.Need-part-find-end Inv-loop μ-loop
-part-find-end c = search needs
-
-find-requires : tie.Need-find-requires Inv-loop μ-loop
+find-requires : tie.Need-find-requires
 find-requires c κs = search needs
 
-end-within : (c : tie.After-find Inv-loop μ-loop) → let turn = c .before .before .before in turn .loop .start + c .find .result ≤ length (text turn)
-end-within c =
-    let turn = c .before .before .before in
-    found-within-rest (Byte (separator turn)) (text turn) (turn .loop .start) (c .find .result) (turn .loop .inv .0) (c .find .ensures)
+sub-result : tie.Need-sub-result
+sub-result c = search needs
 
-add-end : tie.Need-add-end Inv-loop μ-loop
-add-end c = let h = end-within c in search needs
+part-result-start : tie.Need-part-result-start
+part-result-start c = search needs
 
-sub-result : tie.Need-sub-result Inv-loop μ-loop
-sub-result c = let h = end-within c in search needs
+part-result-end : tie.Need-part-result-end
+part-result-end c =
+    let passed = c .before in
+    found-within (Byte (passed .before .before .args .separator)) (passed .from-field .result .now) (c .find .result) (c .find .ensures)
 
-part-result-start : tie.Need-part-result-start Inv-loop μ-loop
-part-result-start c = let h = end-within c in search needs
-
-part-result-end : tie.Need-part-result-end Inv-loop μ-loop
-part-result-end c = let h = end-within c in search needs
-
-returns : tie.Need-returns Inv-loop μ-loop
+returns : tie.Need-returns
 returns c =
-    let f = c .before in
-    let turn = f .before .before .before in
-    part-before-found-in-rest (Byte (separator turn)) (text turn) (turn .loop .start) (f .find .result) (turn .loop .inv .0) (f .find .ensures)
-    ∙ first-field (separator turn) (turn .loop .left) (drop (turn .loop .start) (text turn)) (omega arith)
-    ∙ turn .loop .inv .1
+    let found = c .before in
+    let passed = found .before in
+    let separator = passed .before .before .args .separator in
+    part-before-found (Byte separator) (passed .from-field .result .now) (found .find .result) (found .find .ensures)
+    ∙ ap (before (Byte separator)) (passed .from-field .ensures)
 
 pub field-spec : {M : Type 1} → statement M
 field-spec =
     tie.close
     (tie.spec
-    Inv-loop
-    μ-loop
-    loop-holds
-    sub-first-cell-length
-    part-first-cell-length-start
-    part-first-cell-length-end
-    first-cell-length-requires
-    add-start
-    sub-left
-    loop-less
-    loop-again
-    sub-find
-    part-find-start
-    part-find-end
+    from-field-requires
     find-requires
-    add-end
     sub-result
     part-result-start
     part-result-end
