@@ -8,7 +8,7 @@ use native.Mathlib.Omega.{arith}
 use lib.ListN.{length, getD, take, drop, set, replicate, length-take, length-replicate, drop-of-length-le}
 use lib.Seq.{take-all, take-at, drop-at, take-suc-set, drop-cons}
 use Rattle.figures.specs.declared.writing.Written.{Written}
-use Rattle.figures.specs.Writing.{space, padded, written}
+use Rattle.figures.specs.Writing.{space, written}
 use Rattle.printed.specs.declared.line.Line.{Line}
 use Rattle.printed.specs.Line.{text-of, fitted, LineIs, After}
 
@@ -74,13 +74,14 @@ first-bytes text count = go (decLe count (length text))
 
 -- ---- A figure
 
-written-at-end : (text : List ℕ) → length text ≤ 32 → drop (32 - length text) (padded text) ≡ text
-written-at-end text h = drop-at (replicate (32 - length text) space) text (32 - length text) (length-replicate (32 - length text) space)
+pub figure-text : {w : Written} {text : List ℕ} → w ≡ written text → length text ≤ 32 → drop (32 - w .width) (w .bytes) ≡ text
+figure-text {w} {text} is room =
+    ap (λ (v : Written). drop (32 - v .width) (v .bytes)) is
+    ∙ drop-at (replicate (32 - length text) space) text (32 - length text) (length-replicate (32 - length text) space)
 
 pub number-after : {line r : Line} {w : Written} {text : List ℕ} → w ≡ written text → length text ≤ 32
     → After line (drop (32 - w .width) (w .bytes)) r → After line text r
-number-after {line} {r} {w} {text} is room after =
-    rw (ap (λ (v : Written). drop (32 - v .width) (v .bytes)) is ∙ written-at-end text room) at after
+number-after {line} {r} {w} {text} is room after = rw (figure-text {text = text} is room) at after
 
 -- ---- Byte by byte
 

@@ -2,13 +2,13 @@
 use mathlib.Core.Path.{_≡_, _∙_}
 use mathlib.Core.Bool.{Bool, true, false, cond}
 use mathlib.Core.List.{List, [], _∷_, _++_}
-use Prim.Native.Nat.{ℕ, zero, suc, _+_, _*_, _/_, _≤_}
+use Prim.Native.Nat.{ℕ, zero, suc, _+_, _*_, _/_, _≤_, _<_}
 use native.Mathlib.Omega.{arith}
-use borrow.Author.Tests.{leb-true}
+use borrow.Author.Tests.{leb-true, lt-ltb}
 use lib.Dec.{leb, ltb, eqb}
 use lib.IntN.{ℤ, pos, negsuc, natAbs}
 use lib.ListN.{length, getD, drop, length-append}
-use Rattle.figures.specs.Writing.{digit, three-digits, comma, first-group, grouped-in, grouped, whole-text}
+use Rattle.figures.specs.Writing.{digit, three-digits, six-digits, comma, point, first-group, grouped-in, grouped, whole-text, amount-text}
 use Rattle.printed.specs.declared.line.Line.{Line}
 use Rattle.printed.specs.Line.{text-of, LineIs}
 use Rattle.printed.specs.Filling.{place, filled, places}
@@ -34,10 +34,23 @@ grouped-in-length (suc k) n =
     (omega (arith, first-group-length n))
     (omega (arith, length-append (grouped-in k (n / 1_000)) (comma ∷ three-digits n), grouped-in-length k (n / 1_000)))
 
-number-length : (z : ℤ) → length (whole-text z) ≤ 28
+pub number-length : (z : ℤ) → length (whole-text z) ≤ 28
 unfolding grouped
 number-length (pos n) = omega (arith, grouped-in-length 6 n)
 number-length (negsuc n) = omega (arith, grouped-in-length 6 (natAbs (negsuc n)))
+
+pub amount-length : (z : ℤ) → length (amount-text z) ≤ 35
+unfolding grouped
+amount-length (pos n) =
+    omega (arith, grouped-in-length 6 (n / 1_000_000), length-append (grouped-in 6 (n / 1_000_000)) (point ∷ six-digits n))
+amount-length (negsuc n) =
+    let size = natAbs (negsuc n) in
+    omega (arith, grouped-in-length 6 (size / 1_000_000), length-append (grouped-in 6 (size / 1_000_000)) (point ∷ six-digits size))
+
+-- a number below 1,000
+pub short-number-length : (n : ℕ) → n < 1_000 → length (whole-text (pos n)) ≤ 3
+unfolding grouped grouped-in
+short-number-length n below = rw (lt-ltb n 1_000 below) (first-group-length n)
 
 -- ---- Templates
 

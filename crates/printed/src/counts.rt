@@ -1,6 +1,6 @@
 // Counts of bytes and of lines.
 ghost use mathlib.Core.Path.{_≡_};
-ghost use Prim.Native.Nat.{_-_};
+ghost use Prim.Native.Nat.{_-_, max};
 ghost use Rattle.printed.specs.Counts.{as-number};
 
 // A count as a number.
@@ -21,6 +21,8 @@ pub fn less(a: usize, b: usize) -> usize
     if a < b { 0 } else { a - b }
 }
 
-pub fn larger(a: usize, b: usize) -> usize {
+pub fn larger(a: usize, b: usize) -> usize
+    ensures { λ r. ⌜ r ≡ max a b ⌝ }
+{
     if a < b { b } else { a }
 }

@@ -15,10 +15,9 @@ use tables::accepted::adjustments_line;
 use tables::accepted::openings_line;
 use tables::accepted::payments_line;
 use tables::accepted::weights_line;
-use tables::one_cell::cell_adjustment;
+use tables::one_cell::CellFigure;
 use tables::one_cell::cell_column;
-use tables::one_cell::cell_outstanding;
-use tables::one_cell::cell_payment;
+use tables::one_cell::cell_line;
 use tables::one_cell::cell_title;
 use triangle_text::reading::Asked;
 use verdicts::verdict::Verdict;
@@ -83,10 +82,10 @@ fn print_cell(asked: Asked, payment: i64, adjustment: i64, outstanding: i64) -> 
     }
     let column = cell_column(payment, adjustment, outstanding);
     let title = cell_title(asked.accident_year, asked.development_year);
-    if print_two(title, cell_payment(payment, column)) {
+    if print_two(title, cell_line(CellFigure::Payment, payment, column)) {
         print_two(
-            cell_adjustment(adjustment, column),
-            cell_outstanding(outstanding, column),
+            cell_line(CellFigure::Adjustment, adjustment, column),
+            cell_line(CellFigure::Outstanding, outstanding, column),
         )
     } else {
         false

@@ -21,3 +21,7 @@ adjustments-line false = bytes "Adjustments are read as incremental figures."
 abbrev pub weights-line : Bool → List ℕ
 weights-line true = bytes "Weights are read as given."
 weights-line false = bytes "Weights are not given: each is 1, or 0 where its cell is missing."
+
+-- where the cut is above 1
+abbrev pub openings-line : List ℕ
+openings-line = bytes "Openings are read as given."

@@ -42,6 +42,8 @@ pub fn weights_line(given: bool) -> Line
 }
 
 // Where the cut is above 1.
-pub fn openings_line() -> Line {
+pub fn openings_line() -> Line
+    ensures { λ r. ⌜ LineIs meaning.openings-line r ⌝ }
+{
     line_of(b"Openings are read as given.")
 }

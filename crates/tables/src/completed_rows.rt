@@ -1,7 +1,13 @@
 // The completed triangle: observed and projected payments, adjustments and outstandings, in parts of at most 120 bytes a line.
-ghost use Prim.Native.Nat.{_≤_, _<_};
+ghost use mathlib.Core.Path.{_≡_};
+ghost use Prim.Native.Nat.{_+_, _/_, _≤_, _<_};
+ghost use lib.ListN.{length};
 ghost use Rattle.method.specs.Limits.{most-accident-years};
 ghost use Rattle.completed.specs.Completed.{CellOfSquare};
+ghost use Rattle.printed.specs.Line.{LineIs, After};
+ghost use Rattle.tables.specs.Entries.{entry};
+ghost use Rattle.tables.specs.CompletedRows as meaning;
+ghost use Rattle.tables.specs.CompletedRows.{CellShown, RowShown, RowWidthIs, ColumnIs};
 use crate::entries::amount_width;
 use crate::entries::label;
 use crate::entries::whole_width;
@@ -24,7 +30,9 @@ pub enum Table {
     Outstandings,
 }
 
-pub fn table_title(table: Table) -> Line {
+pub fn table_title(table: Table) -> Line
+    ensures { λ r. ⌜ LineIs (meaning.table-title table) r ⌝ }
+{
     match table {
         Table::Payments => line_of(b"Payments of the year, in units (* projected)"),
         Table::Adjustments => line_of(b"Adjustments of the year, in units (* projected)"),
@@ -37,7 +45,7 @@ pub fn table_title(table: Table) -> Line {
 // The last development year of the part that follows `before` years: as many as stay within 120 bytes, and one at least.
 pub fn last_in_part(n: usize, before: usize, column: usize) -> usize
     requires { ⌜ (before < n) × (n ≤ most-accident-years) ⌝ }
-    ensures { λ r. ⌜ (before < r) × (r ≤ n) ⌝ }
+    ensures { λ r. ⌜ (before < r) × (r ≤ n) × (r ≡ meaning.last-in-part n before column) ⌝ }
 {
     let years = years_in_part(column);
     if years == 0 {
@@ -50,13 +58,16 @@ pub fn last_in_part(n: usize, before: usize, column: usize) -> usize
 }
 
 // The accident years take 13 bytes, and each column two spaces before it.
-fn years_in_part(column: usize) -> usize {
+fn years_in_part(column: usize) -> usize
+    ensures { λ r. ⌜ r ≡ 107 / (column + 2) ⌝ }
+{
     if column < 106 { 107 / (column + 2) } else { 0 }
 }
 
 // The heading of a part: its development years, after those that are before it and up to the last.
 pub fn years_heading(before: usize, last: usize, column: usize) -> Line
     requires { ⌜ last ≤ most-accident-years ⌝ }
+    ensures { λ r. ⌜ LineIs (meaning.years-heading before last column) r ⌝ }
 {
     let mut line = line_of(b"accident year");
     let mut k = before;
@@ -82,6 +93,9 @@ pub fn completed_row<'a>(
     column: usize,
 ) -> Line
     requires { ⌜ (n ≤ most-accident-years) × (cut ≤ most-accident-years) × (1 ≤ i) × (i ≤ n) × (last ≤ n) ⌝ }
+    ensures { λ r. ⌜ RowShown n cut
+        (now (payments .entry)) (now (adjustments .entry)) (now (openings .entry)) (now (future .entry))
+        table i before last column r ⌝ }
 {
     let mut line = label(i, 13);
     let mut k = before;
@@ -93,7 +107,9 @@ pub fn completed_row<'a>(
     line
 }
 
-fn with_shown(line: Line, shown: Shown, column: usize) -> Line {
+fn with_shown(line: Line, shown: Shown, column: usize) -> Line
+    ensures { λ r. ⌜ After line (entry column (meaning.shown-entry shown)) r ⌝ }
+{
     match shown {
         Shown::Missing => with_text_entry(line, b"?", column),
         Shown::Observed(units) => with_whole(line, units, column),
@@ -112,6 +128,9 @@ pub fn completed_column<'a>(
     future: &'a [i64],
 ) -> usize
     requires { ⌜ (n ≤ most-accident-years) × (cut ≤ most-accident-years) ⌝ }
+    ensures { λ r. ⌜ ColumnIs n cut
+        (now (payments .entry)) (now (adjustments .entry)) (now (openings .entry)) (now (future .entry))
+        table r ⌝ }
 {
     let mut column = 0;
     let mut i = 0;
@@ -136,6 +155,9 @@ fn widest_in_row<'a>(
     i: usize,
 ) -> usize
     requires { ⌜ (n ≤ most-accident-years) × (cut ≤ most-accident-years) × (1 ≤ i) × (i ≤ n) ⌝ }
+    ensures { λ r. ⌜ RowWidthIs n cut
+        (now (payments .entry)) (now (adjustments .entry)) (now (openings .entry)) (now (future .entry))
+        table i r ⌝ }
 {
     let mut column = 0;
     let mut k = 0;
@@ -148,17 +170,14 @@ fn widest_in_row<'a>(
 }
 
 // The width of an entry, with its mark.
-fn shown_width(shown: Shown) -> usize {
+fn shown_width(shown: Shown) -> usize
+    ensures { λ r. ⌜ r ≡ length (meaning.shown-entry shown) ⌝ }
+{
     match shown {
         Shown::Missing => 1,
         Shown::Observed(units) => whole_width(units),
-        Shown::Projected(millionths) => marked_width(amount_width(millionths)),
+        Shown::Projected(millionths) => amount_width(millionths) + 1,
     }
-}
-
-// No figure is as wide as a thousand bytes.
-fn marked_width(width: usize) -> usize {
-    if width < 1_000 { width + 1 } else { width }
 }
 
 // What stands in a table for accident year i and development year k.
@@ -174,6 +193,9 @@ fn shown_in<'a>(
     k: usize,
 ) -> Shown
     requires { ⌜ CellOfSquare n i k × (cut ≤ most-accident-years) ⌝ }
+    ensures { λ r. ⌜ CellShown n cut
+        (now (payments .entry)) (now (adjustments .entry)) (now (openings .entry)) (now (future .entry))
+        table i k r ⌝ }
 {
     match table {
         Table::Payments => amount_shown(n, cut, payments, future, 0, i, k),

@@ -1,9 +1,11 @@
 // The entries of a table's line.
+ghost use mathlib.Core.Path.{_≡_};
 ghost use mathlib.Core.List.{_++_};
 ghost use Prim.Native.Nat.{_-_};
 ghost use lib.ListN.{length, drop, replicate};
-ghost use Rattle.figures.specs.Writing.{space};
-ghost use Rattle.printed.specs.Line.{After};
+ghost use Rattle.figures.specs.Writing.{space, whole-text, amount-text};
+ghost use Rattle.printed.specs.Line.{LineIs, After};
+ghost use Rattle.tables.specs.Entries.{entry, set-right, year-text};
 use figures::writing::Written;
 use figures::writing::amount;
 use figures::writing::whole;
@@ -30,7 +32,7 @@ pub(crate) fn with_entry(line: Line, mark: &[u8], written: Written, column: usiz
 
 // A text as an entry.
 pub(crate) fn with_text_entry(line: Line, text: &[u8], column: usize) -> Line
-    ensures { λ r. ⌜ After line (replicate 2 space ++ (replicate (column - length (now (text .entry))) space ++ now (text .entry))) r ⌝ }
+    ensures { λ r. ⌜ After line (entry column (now (text .entry))) r ⌝ }
 {
     with_text(
         with_spaces(with_spaces(line, 2), less(column, text.len())),
@@ -39,26 +41,37 @@ pub(crate) fn with_text_entry(line: Line, text: &[u8], column: usize) -> Line
 }
 
 // A whole number as an entry, and an amount in millionths.
-pub(crate) fn with_whole(line: Line, number: i64, column: usize) -> Line {
+pub(crate) fn with_whole(line: Line, number: i64, column: usize) -> Line
+    ensures { λ r. ⌜ After line (entry column (whole-text number)) r ⌝ }
+{
     with_entry(line, b"", whole(number), column)
 }
 
-pub(crate) fn with_amount(line: Line, millionths: i64, column: usize) -> Line {
+pub(crate) fn with_amount(line: Line, millionths: i64, column: usize) -> Line
+    ensures { λ r. ⌜ After line (entry column (amount-text millionths)) r ⌝ }
+{
     with_entry(line, b"", amount(millionths), column)
 }
 
-pub(crate) fn whole_width(number: i64) -> usize {
+// The widths of both.
+pub(crate) fn whole_width(number: i64) -> usize
+    ensures { λ r. ⌜ r ≡ length (whole-text number) ⌝ }
+{
     let written = whole(number);
     written.width
 }
 
-pub(crate) fn amount_width(millionths: i64) -> usize {
+pub(crate) fn amount_width(millionths: i64) -> usize
+    ensures { λ r. ⌜ r ≡ length (amount-text millionths) ⌝ }
+{
     let written = amount(millionths);
     written.width
 }
 
 // The label of a row, as wide as the heading of its column.
-pub(crate) fn label(number: usize, column: usize) -> Line {
+pub(crate) fn label(number: usize, column: usize) -> Line
+    ensures { λ r. ⌜ LineIs (set-right column (year-text number)) r ⌝ }
+{
     let written = whole(signed(number));
     with_written(with_spaces(empty(), less(column, written.width)), written)
 }

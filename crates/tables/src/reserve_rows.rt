@@ -1,6 +1,12 @@
 // The table of reserves by accident year, with totals.
+ghost use mathlib.Core.Path.{_≡_};
 ghost use Prim.Native.Nat.{_≤_, _<_};
+ghost use lib.ListN.{length};
 ghost use Rattle.method.specs.Limits.{most-accident-years};
+ghost use Rattle.figures.specs.Writing.{whole-text, amount-text};
+ghost use Rattle.printed.specs.Line.{LineIs, After};
+ghost use Rattle.tables.specs.Entries.{entry};
+ghost use Rattle.tables.specs.ReserveRows as meaning;
 use crate::entries::amount_width;
 use crate::entries::label;
 use crate::entries::whole_width;
@@ -15,11 +21,15 @@ use printed::line::Line;
 use printed::line::line_of;
 use verdicts::limits::ACCIDENT_YEARS;
 
-pub fn reserves_title() -> Line {
+pub fn reserves_title() -> Line
+    ensures { λ r. ⌜ LineIs meaning.reserves-title r ⌝ }
+{
     line_of(b"Reserves in units")
 }
 
-pub fn reserves_heading(column: usize) -> Line {
+pub fn reserves_heading(column: usize) -> Line
+    ensures { λ r. ⌜ LineIs (meaning.reserves-heading column) r ⌝ }
+{
     let years = line_of(b"accident year");
     let observed = with_text_entry(years, b"last outstanding", column);
     let paid = with_text_entry(observed, b"paid reserve", column);
@@ -35,6 +45,7 @@ pub fn reserves_row(
     column: usize,
 ) -> Line
     requires { ⌜ (1 ≤ i) × (i ≤ most-accident-years) ⌝ }
+    ensures { λ r. ⌜ LineIs (meaning.reserves-row outstandings (now (reserves .entry)) i column) r ⌝ }
 {
     let observed = with_whole(label(i, 13), outstandings[i - 1], column);
     let paid = with_amount(observed, reserve_at(reserves, 0, i), column);
@@ -49,6 +60,7 @@ pub fn totals_row(
     column: usize,
 ) -> Line
     requires { ⌜ n ≤ most-accident-years ⌝ }
+    ensures { λ r. ⌜ LineIs (meaning.totals-row n outstandings (now (reserves .entry)) column) r ⌝ }
 {
     let observed = with_total_of_units(
         line_of(b"        total"),
@@ -60,14 +72,18 @@ pub fn totals_row(
     with_total(incurred, reserves_total(n, reserves, 2), column)
 }
 
-fn with_total_of_units(line: Line, total: Exact, column: usize) -> Line {
+fn with_total_of_units(line: Line, total: Exact, column: usize) -> Line
+    ensures { λ r. ⌜ After line (entry column (meaning.total-text whole-text total)) r ⌝ }
+{
     match total {
         Exact::Of(units) => with_whole(line, units, column),
         Exact::TooLarge => with_text_entry(line, b"above 64 bits", column),
     }
 }
 
-fn with_total(line: Line, total: Exact, column: usize) -> Line {
+fn with_total(line: Line, total: Exact, column: usize) -> Line
+    ensures { λ r. ⌜ After line (entry column (meaning.total-text amount-text total)) r ⌝ }
+{
     match total {
         Exact::Of(millionths) => with_amount(line, millionths, column),
         Exact::TooLarge => with_text_entry(line, b"above 64 bits", column),
@@ -76,6 +92,7 @@ fn with_total(line: Line, total: Exact, column: usize) -> Line {
 
 fn outstandings_total(n: usize, outstandings: [i64; ACCIDENT_YEARS]) -> Exact
     requires { ⌜ n ≤ most-accident-years ⌝ }
+    ensures { λ r. ⌜ r ≡ meaning.outstandings-total outstandings n ⌝ }
 {
     let mut total = 0;
     let mut i = 0;
@@ -93,6 +110,7 @@ fn outstandings_total(n: usize, outstandings: [i64; ACCIDENT_YEARS]) -> Exact
 // The total of one of the three figures of the reserve list.
 fn reserves_total(n: usize, reserves: &[i64], figure: usize) -> Exact
     requires { ⌜ (n ≤ most-accident-years) × (figure < 3) ⌝ }
+    ensures { λ r. ⌜ r ≡ meaning.reserves-total (now (reserves .entry)) figure n ⌝ }
 {
     let mut total = 0;
     let mut i = 1;
@@ -110,6 +128,7 @@ fn reserves_total(n: usize, reserves: &[i64], figure: usize) -> Exact
 // The width of the widest entry: a figure, a total or the widest heading.
 pub fn reserves_column(n: usize, outstandings: [i64; ACCIDENT_YEARS], reserves: &[i64]) -> usize
     requires { ⌜ n ≤ most-accident-years ⌝ }
+    ensures { λ r. ⌜ r ≡ meaning.reserves-column n outstandings (now (reserves .entry)) ⌝ }
 {
     let observed = outstandings_width(n, outstandings);
     let paid = reserves_width(n, reserves, 0);
@@ -123,12 +142,9 @@ pub fn reserves_column(n: usize, outstandings: [i64; ACCIDENT_YEARS], reserves: 
 
 fn outstandings_width(n: usize, outstandings: [i64; ACCIDENT_YEARS]) -> usize
     requires { ⌜ n ≤ most-accident-years ⌝ }
+    ensures { λ r. ⌜ r ≡ meaning.outstandings-width outstandings n ⌝ }
 {
-    let total = outstandings_total(n, outstandings);
-    let mut column = match total {
-        Exact::Of(units) => whole_width(units),
-        Exact::TooLarge => 13,
-    };
+    let mut column = total_of_units_width(outstandings_total(n, outstandings));
     let mut i = 0;
     while i < n {
         column = larger(column, whole_width(outstandings[i]));
@@ -139,6 +155,7 @@ fn outstandings_width(n: usize, outstandings: [i64; ACCIDENT_YEARS]) -> usize
 
 fn reserves_width(n: usize, reserves: &[i64], figure: usize) -> usize
     requires { ⌜ (n ≤ most-accident-years) × (figure < 3) ⌝ }
+    ensures { λ r. ⌜ r ≡ meaning.reserves-width (now (reserves .entry)) figure n ⌝ }
 {
     let mut column = total_width(reserves_total(n, reserves, figure));
     let mut i = 1;
@@ -149,7 +166,18 @@ fn reserves_width(n: usize, reserves: &[i64], figure: usize) -> usize
     column
 }
 
-fn total_width(total: Exact) -> usize {
+fn total_of_units_width(total: Exact) -> usize
+    ensures { λ r. ⌜ r ≡ length (meaning.total-text whole-text total) ⌝ }
+{
+    match total {
+        Exact::Of(units) => whole_width(units),
+        Exact::TooLarge => 13,
+    }
+}
+
+fn total_width(total: Exact) -> usize
+    ensures { λ r. ⌜ r ≡ length (meaning.total-text amount-text total) ⌝ }
+{
     match total {
         Exact::Of(millionths) => amount_width(millionths),
         Exact::TooLarge => 13,

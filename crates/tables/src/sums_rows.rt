@@ -1,26 +1,35 @@
 // The table of the ratios' sums.
+ghost use mathlib.Core.Path.{_≡_};
 ghost use Prim.Native.Nat.{_≤_, _<_};
 ghost use Rattle.method.specs.Limits.{most-accident-years};
+ghost use Rattle.printed.specs.Line.{LineIs};
+ghost use Rattle.tables.specs.Entries.{set-right};
+ghost use Rattle.tables.specs.SumsRows as meaning;
 use crate::entries::whole_width;
 use crate::entries::with_text_entry;
 use crate::entries::with_whole;
+use figures::writing::whole;
 use printed::counts::larger;
 use printed::counts::less;
 use printed::counts::signed;
-use printed::filling::filled_2;
 use printed::line::Line;
 use printed::line::empty;
 use printed::line::line_of;
-use printed::line::with_line;
 use printed::line::with_spaces;
+use printed::line::with_text;
+use printed::line::with_written;
 use triangle::ratios::Sums;
 use verdicts::limits::DEVELOPMENT_YEARS;
 
-pub fn sums_title() -> Line {
+pub fn sums_title() -> Line
+    ensures { λ r. ⌜ LineIs meaning.sums-title r ⌝ }
+{
     line_of(b"Sums of the ratios: payment ratio P / D, adjustment ratio Q / D")
 }
 
-pub fn sums_heading(column: usize) -> Line {
+pub fn sums_heading(column: usize) -> Line
+    ensures { λ r. ⌜ LineIs (meaning.sums-heading column) r ⌝ }
+{
     let years = line_of(b"development year");
     with_text_entry(
         with_text_entry(with_text_entry(years, b"P", column), b"Q", column),
@@ -32,24 +41,29 @@ pub fn sums_heading(column: usize) -> Line {
 // The row of development year k, whose sums project from that year to the next.
 pub fn sums_row(ratios: [Sums; DEVELOPMENT_YEARS], k: usize, column: usize) -> Line
     requires { ⌜ (1 ≤ k) × (k < most-accident-years) ⌝ }
+    ensures { λ r. ⌜ LineIs (meaning.sums-row ratios k column) r ⌝ }
 {
     let sums = ratios[k - 1];
-    let years = filled_2(b"@ to @", signed(k), signed(k + 1));
-    let label = with_line(with_spaces(empty(), less(16, years.length)), years);
-    with_whole(
-        with_whole(
-            with_whole(label, sums.payments, column),
-            sums.adjustments,
-            column,
-        ),
-        sums.exposure,
-        column,
-    )
+    let payments = with_whole(years_label(k), sums.payments, column);
+    let adjustments = with_whole(payments, sums.adjustments, column);
+    with_whole(adjustments, sums.exposure, column)
 }
 
-// The width of the widest entry.
+// From this development year to the next, as wide as the heading of its column.
+fn years_label(k: usize) -> Line
+    requires { ⌜ k < most-accident-years ⌝ }
+    ensures { λ r. ⌜ LineIs (set-right 16 (meaning.from-year k)) r ⌝ }
+{
+    let from = whole(signed(k));
+    let to = whole(signed(k + 1));
+    let spaces = with_spaces(empty(), less(less(12, from.width), to.width));
+    with_written(with_text(with_written(spaces, from), b" to "), to)
+}
+
+// The width of the widest sum, or of a heading.
 pub fn sums_column(n: usize, ratios: [Sums; DEVELOPMENT_YEARS]) -> usize
     requires { ⌜ n ≤ most-accident-years ⌝ }
+    ensures { λ r. ⌜ r ≡ meaning.sums-column n ratios ⌝ }
 {
     let mut column = 1;
     let mut j = 0;
@@ -60,7 +74,9 @@ pub fn sums_column(n: usize, ratios: [Sums; DEVELOPMENT_YEARS]) -> usize
     column
 }
 
-fn sums_width(sums: Sums) -> usize {
+fn sums_width(sums: Sums) -> usize
+    ensures { λ r. ⌜ r ≡ meaning.sums-width sums ⌝ }
+{
     larger(
         larger(whole_width(sums.payments), whole_width(sums.adjustments)),
         whole_width(sums.exposure),

@@ -1,20 +1,41 @@
--- Every cell is one of the square, and each turn leaves one cell less.
+-- The cells that are left make the whole after what is there; each turn leaves one less.
+use mathlib.Core.Path.{_≡_}
+use mathlib.Core.List.{List}
+use Prim.Native.Nat.{ℕ, _+_, _-_, _≤_}
+use native.Mathlib.Omega.{arith}
 use borrow.Author.Needs.{needs}
-use Prim.Native.Nat.{_-_, _≤_}
+use lib.ListN.{length}
+use Rattle.completed.specs.Completed.{RowWithin}
+use Rattle.printed.specs.declared.line.Line.{Line}
+use Rattle.printed.specs.Line.{LineIs, After}
+use Rattle.printed.proofs.LineTexts.{line-after}
+use Rattle.tables.specs.Entries.{entries-after}
+use Rattle.tables.specs.CompletedRows.{lists, shown-entry, cell-shown, completed-row}
+use Rattle.tables.proofs.TableLines.{one-entry-more, no-entry-more}
 use Rattle.tables.proofs.completed_rows.completed_row.Statement.{statement}
 use Rattle.tables.proofs.completed_rows.completed_row.Tie as tie
 
 abbrev Inv-loop : tie.InvT-loop
-Inv-loop table n cut payments adjustments openings future i before last column line₀ k₀ line k = (n ≤ 32) × (cut ≤ 32) × (1 ≤ i) × (i ≤ n) × (last ≤ n)
+Inv-loop table n cut payments adjustments openings future i before last column line₀ k₀ line k =
+    (n ≤ 32) × (cut ≤ 32) × (1 ≤ i) × (i ≤ n) × (last ≤ n) × (length (line .bytes) ≡ 512)
+    × (((k : ℕ) → i + k ≤ n + 1 → RowWithin (lists n cut payments adjustments openings future) i k) → (r : Line)
+    → After line (entries-after (λ k. shown-entry (cell-shown n cut payments adjustments openings future table i k)) column k (last - k)) r
+    → LineIs (completed-row n cut payments adjustments openings future table i before last column) r)
 
 abbrev μ-loop : tie.MeasureT-loop
 μ-loop table n cut payments adjustments openings future i before last column line₀ k₀ line k = last - k
+
+abbrev entry-in : tie.At-loop Inv-loop μ-loop → ℕ → List ℕ
+entry-in turn k =
+    let args = turn .before .before .args in
+    shown-entry (cell-shown (args .n) (args .cut) (args .payments .now) (args .adjustments .now) (args .openings .now) (args .future .now) (args .table) (args .i) k)
 
 label-requires : tie.Need-label-requires Inv-loop μ-loop
 label-requires c κs = search needs
 
 loop-holds : tie.Need-loop-holds Inv-loop μ-loop
-loop-holds c = search needs
+unfolding completed-row
+loop-holds c = (search needs, search needs, search needs, search needs, search needs, search needs, λ within r after. line-after (c .label .ensures) after)
 
 add-k : tie.Need-add-k Inv-loop μ-loop
 add-k c = search needs
@@ -28,11 +49,33 @@ with-shown-requires c κs = search needs
 loop-less : tie.Need-loop-less Inv-loop μ-loop
 loop-less c = search needs
 
+kept : (c : tie.After-with-shown Inv-loop μ-loop) → length (c .with-shown .result .bytes) ≡ 512
+kept c = let ok = c .with-shown .ok in search needs
+
 loop-again : tie.Need-loop-again Inv-loop μ-loop
-loop-again c = search needs
+loop-again c =
+    let shown = c .before in
+    let turn = shown .before .before in
+    let args = turn .before .before .args in (
+      search needs,
+      search needs,
+      search needs,
+      search needs,
+      search needs,
+      kept c,
+      λ within r after.
+          let entry = rw (shown .shown-in .ensures .is within) at (c .with-shown .ensures) in
+          turn .loop .inv .6 within r (one-entry-more (entry-in turn) (args .column) (turn .loop .k) (args .last) (omega arith) entry after),
+    )
 
 returns : tie.Need-returns Inv-loop μ-loop
-returns c = search needs
+returns c =
+    let turn = c .before in
+    let args = turn .before .before .args in
+    record {
+      is = λ within. turn .loop .inv .6 within (turn .loop .line)
+          (no-entry-more (entry-in turn) (args .column) (turn .loop .k) (args .last) (omega arith) (turn .loop .inv .5));
+    }
 
 pub completed-row-spec : {M : Type 1} → statement M
 completed-row-spec =

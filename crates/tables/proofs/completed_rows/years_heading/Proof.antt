@@ -1,11 +1,23 @@
--- There are few years, and each turn leaves one less.
-use borrow.Author.Needs.{needs}
+-- The development years that are left make the whole after what is there; each turn leaves one less.
+use mathlib.Core.Path.{_≡_}
 use Prim.Native.Nat.{_-_, _≤_}
+use native.Mathlib.Omega.{arith}
+use borrow.Author.Needs.{needs}
+use lib.ListN.{length}
+use Rattle.integers.proofs.MachineArithmetic.{held}
+use Rattle.printed.specs.declared.line.Line.{Line}
+use Rattle.printed.specs.Line.{LineIs, After}
+use Rattle.printed.proofs.LineTexts.{line-after}
+use Rattle.tables.specs.Entries.{year-text, entries-after}
+use Rattle.tables.specs.CompletedRows.{years-heading}
+use Rattle.tables.proofs.TableLines.{one-entry-more, no-entry-more}
 use Rattle.tables.proofs.completed_rows.years_heading.Statement.{statement}
 use Rattle.tables.proofs.completed_rows.years_heading.Tie as tie
 
 abbrev Inv-loop : tie.InvT-loop
-Inv-loop before last column line₀ k₀ line k = last ≤ 32
+Inv-loop before last column line₀ k₀ line k =
+    (last ≤ 32) × (length (line .bytes) ≡ 512)
+    × ((r : Line) → After line (entries-after year-text column k (last - k)) r → LineIs (years-heading before last column) r)
 
 abbrev μ-loop : tie.MeasureT-loop
 μ-loop before last column line₀ k₀ line k = last - k
@@ -17,7 +29,8 @@ line-of-requires : tie.Need-line-of-requires Inv-loop μ-loop
 line-of-requires c κs = search needs
 
 loop-holds : tie.Need-loop-holds Inv-loop μ-loop
-loop-holds c = search needs
+unfolding years-heading
+loop-holds c = (search needs, search needs, λ r after. line-after (c .line-of .ensures) after)
 
 add-k : tie.Need-add-k Inv-loop μ-loop
 add-k c = search needs
@@ -32,10 +45,18 @@ loop-less : tie.Need-loop-less Inv-loop μ-loop
 loop-less c = search needs
 
 loop-again : tie.Need-loop-again Inv-loop μ-loop
-loop-again c = search needs
+loop-again c =
+    let counted = c .before in
+    let turn = counted .before .before in
+    let args = turn .before .before .before .args in
+    let entry = rw (counted .signed .ensures) at (simp (held (counted .signed .result) (counted .signed .ok)) at (c .with-whole .ensures)) in
+    (search needs, search needs, λ r after. turn .loop .inv .2 r (one-entry-more year-text (args .column) (turn .loop .k) (args .last) (omega arith) entry after))
 
 returns : tie.Need-returns Inv-loop μ-loop
-returns c = search needs
+returns c =
+    let turn = c .before in
+    let args = turn .before .before .before .args in
+    turn .loop .inv .2 (turn .loop .line) (no-entry-more year-text (args .column) (turn .loop .k) (args .last) (omega arith) (turn .loop .inv .1))
 
 pub years-heading-spec : {M : Type 1} → statement M
 years-heading-spec =

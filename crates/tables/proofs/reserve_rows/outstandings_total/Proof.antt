@@ -1,17 +1,38 @@
--- There is room for every accident year, and each turn leaves one less.
+-- What is summed so far, with the numbers that are left, is the total.
+use mathlib.Core.Path.{_≡_, ap, _∙_}
+use Prim.Native.Nat.{ℕ, _-_, _≤_}
+use native.Mathlib.Nat.{sub-zero}
+use native.Mathlib.Omega.{arith}
 use borrow.Author.Needs.{needs}
-use Prim.Native.Nat.{_-_, _≤_}
+use lib.IntN.{ℤ, pos, _+ℤ_}
+use lib.ListN.{getD}
+use mir.Syntax.{w64}
+use mir.Val.{toZ}
+use Rattle.integers.proofs.MachineArithmetic.{held}
+use Rattle.figures.specs.Exact.{exact-of}
+use Rattle.tables.specs.ReserveRows.{total-from, outstandings-total}
+use Rattle.tables.proofs.Totals.{number-added, too-large, all-added}
 use Rattle.tables.proofs.reserve_rows.outstandings_total.Statement.{statement}
 use Rattle.tables.proofs.reserve_rows.outstandings_total.Tie as tie
 
 abbrev Inv-loop : tie.InvT-loop
-Inv-loop n outstandings total₀ i₀ total i = n ≤ 32
+Inv-loop n outstandings total₀ i₀ total i =
+    (n ≤ 32) × (i ≤ n) × (total-from (λ place. getD outstandings place (pos 0)) (toZ w64 total) i (n - i) ≡ outstandings-total outstandings n)
 
 abbrev μ-loop : tie.MeasureT-loop
 μ-loop n outstandings total₀ i₀ total i = n - i
 
+abbrev number-in : tie.At-loop Inv-loop μ-loop → ℕ → ℤ
+number-in turn place = getD (turn .before .args .t2) place (pos 0)
+
+added-is : (c : tie.After-sum Inv-loop μ-loop) → let turn = c .before .before .before in
+    c .sum .result ≡ exact-of (toZ w64 (turn .loop .total) +ℤ number-in turn (turn .loop .i))
+added-is c =
+    let turn = c .before .before .before in
+    simp (held (number-in turn (turn .loop .i)) (c .before .sum-arg .given)) at (c .sum .ensures)
+
 loop-holds : tie.Need-loop-holds Inv-loop μ-loop
-loop-holds c = search needs
+loop-holds c = (search needs, omega arith, ap (total-from (λ place. getD (c .args .t2) place (pos 0)) (pos 0) 0) (sub-zero (c .args .n)))
 
 mul-sum : tie.Need-mul-sum Inv-loop μ-loop
 mul-sum c = search needs
@@ -29,7 +50,10 @@ enum-told : tie.Need-enum-told Inv-loop μ-loop
 enum-told c = search needs
 
 returns : tie.Need-returns Inv-loop μ-loop
-returns c = search needs
+returns c =
+    let added = c .before .before in
+    let turn = added .before .before .before in
+    too-large (number-in turn) (toZ w64 (turn .loop .total)) (turn .loop .i) (turn .before .args .n) (omega arith) (added-is added) (c .enum-told .given .1) ∙ turn .loop .inv .2
 
 add-i : tie.Need-add-i Inv-loop μ-loop
 add-i c = search needs
@@ -38,10 +62,20 @@ loop-less : tie.Need-loop-less Inv-loop μ-loop
 loop-less c = search needs
 
 loop-again : tie.Need-loop-again Inv-loop μ-loop
-loop-again c = search needs
+loop-again c =
+    let added = c .before .before .before in
+    let turn = added .before .before .before in
+    let number = c .before .added .given in (
+      search needs,
+      omega arith,
+      rw (held (number .0 .0) (c .known-told .given .0 .1))
+          (number-added (number-in turn) (toZ w64 (turn .loop .total)) (turn .loop .i) (turn .before .args .n) (omega arith) (added-is added) (number .1) ∙ turn .loop .inv .2),
+    )
 
 returns-2 : tie.Need-returns-2 Inv-loop μ-loop
-returns-2 c = search needs
+returns-2 c =
+    let turn = c .before in
+    all-added (number-in turn) (toZ w64 (turn .loop .total)) (turn .loop .i) (turn .before .args .n) (omega arith) ∙ turn .loop .inv .2
 
 pub outstandings-total-spec : {M : Type 1} → statement M
 outstandings-total-spec =
