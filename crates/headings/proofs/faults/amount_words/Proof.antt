@@ -12,7 +12,7 @@ check-requires c κs = search needs
 
 returns : tie.Need-returns
 unfolding amount-words
-returns c = cc
+returns c = rw (c .check .ensures, c .before .says-how .ensures)
 
 pub amount-words-spec : {M : Type 1} → statement M
 amount-words-spec = tie.close (tie.spec says-how-requires check-requires returns)

@@ -18,7 +18,7 @@ check-requires c κs = search needs
 
 returns : tie.Need-returns
 unfolding cell-words
-returns c = cc
+returns c = rw (c .check .ensures, c .before .is-no-word .ensures, c .before .before .is-number2 .ensures, c .before .before .before .is-number .ensures)
 
 pub cell-words-spec : {M : Type 1} → statement M
 cell-words-spec =

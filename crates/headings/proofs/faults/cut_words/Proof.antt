@@ -15,7 +15,7 @@ check-requires c κs = search needs
 
 returns : tie.Need-returns
 unfolding cut-words
-returns c = cc
+returns c = rw (c .check .ensures, c .before .is-no-word .ensures, c .before .before .is-number .ensures)
 
 pub cut-words-spec : {M : Type 1} → statement M
 cut-words-spec = tie.close (tie.spec is-number-requires is-no-word-requires check-requires returns)

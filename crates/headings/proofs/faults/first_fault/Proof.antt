@@ -1,7 +1,7 @@
 -- The lines from the one on that is read next have the first fault of all; each turn-of passes a line without one.
 use mathlib.Core.Path.{_≡_, ap, _∙_}
 use mathlib.Core.List.{List}
-use Prim.Native.Nat.{ℕ, _+_, _-_}
+use Prim.Native.Nat.{ℕ, _+_, _-_, _<_}
 use native.Mathlib.Omega.{arith}
 use borrow.Author.Needs.{needs}
 use lib.ListN.{length}
@@ -31,11 +31,14 @@ line c = c .before .before .first-line .result .now
 abbrev check-in : tie.After-first-line-length Inv-loop μ-loop → tie.After-check-line Inv-loop μ-loop
 check-in c = c .before .before .before .before .before
 
+more-left : (c : tie.After-check-line Inv-loop μ-loop) → turn-of c .loop .start < length (text c)
+more-left c = c .before .before .before .before .loop-test .taken
+
 read : (c : tie.After-first-line-length Inv-loop μ-loop) → let checked = check-in c in
     LineAt (text checked) (turn-of checked .loop .start) (line checked) (turn-of checked .loop .start + c .first-line-length .result)
 read c =
     let checked = check-in c in
-    line-read (text checked) (turn-of checked .loop .start) (line checked) (checked .before .before .first-line .ensures) (omega arith)
+    line-read (text checked) (turn-of checked .loop .start) (line checked) (checked .before .before .first-line .ensures) (more-left checked)
     (c .first-line-length .result) (c .first-line-length .ensures)
 
 told : (c : tie.After-check-line Inv-loop μ-loop) → let separator = turn-of c .before .before .args .separator in
@@ -50,10 +53,10 @@ loop-holds : tie.Need-loop-holds Inv-loop μ-loop
 loop-holds c = checks-begin (c .before .args .text .now) (c .before .args .separator)
 
 sub-first-line : tie.Need-sub-first-line Inv-loop μ-loop
-sub-first-line c = search needs
+sub-first-line c = c .before .loop .inv .within
 
 part-first-line-start : tie.Need-part-first-line-start Inv-loop μ-loop
-part-first-line-start c = search needs
+part-first-line-start c = c .before .loop .inv .within
 
 part-first-line-end : tie.Need-part-first-line-end Inv-loop μ-loop
 part-first-line-end c = search needs
@@ -84,7 +87,7 @@ returns c =
     let checked = c .before .before .before in
     let turn = turn-of checked in
     let separator = turn .before .before .args .separator in
-    let parts = line-and-others (text checked) (turn .loop .start) (line checked) (checked .before .before .first-line .ensures) (omega arith) in
+    let parts = line-and-others (text checked) (turn .loop .start) (line checked) (checked .before .before .first-line .ensures) (more-left checked) in
     c .fault-at .ensures
     ∙ fault-here (text checked) separator (turn .loop .under) (turn .loop .number) (turn .loop .start) (turn .loop .inv) (line checked) (checked .check-line .result) (told checked)
     _ parts _ (c .before .enum-told2 .given .1)
@@ -93,10 +96,10 @@ under-after-requires : tie.Need-under-after-requires Inv-loop μ-loop
 under-after-requires c κs = search needs
 
 sub-first-line-length : tie.Need-sub-first-line-length Inv-loop μ-loop
-sub-first-line-length c = search needs
+sub-first-line-length c = turn-of (c .before .before .before) .loop .inv .within
 
 part-first-line-length-start : tie.Need-part-first-line-length-start Inv-loop μ-loop
-part-first-line-length-start c = search needs
+part-first-line-length-start c = turn-of (c .before .before .before) .loop .inv .within
 
 part-first-line-length-end : tie.Need-part-first-line-length-end Inv-loop μ-loop
 part-first-line-length-end c = search needs

@@ -12,7 +12,7 @@ check-requires c κs = search needs
 
 returns : tie.Need-returns
 unfolding no-words
-returns c = cc
+returns c = rw (c .check .ensures, c .before .is-no-word .ensures)
 
 pub no-words-spec : {M : Type 1} → statement M
 no-words-spec = tie.close (tie.spec is-no-word-requires check-requires returns)

@@ -21,7 +21,9 @@ is-no-word-requires c κs = search needs
 
 returns : tie.Need-returns
 unfolding says-how
-returns c = cc
+returns c =
+    let cumulated = c .before .before .before in
+    rw (cumulated .says-cumulated .ensures, c .before .is-word .ensures, c .is-no-word .ensures, cumulated .before .word .ensures)
 
 pub says-how-spec : {M : Type 1} → statement M
 says-how-spec =

@@ -12,7 +12,7 @@ is-word-requires-2 c κs = search needs
 
 returns : tie.Need-returns
 unfolding is-either
-returns c = cc
+returns c = rw (c .before .is-word .ensures, c .is-word2 .ensures)
 
 pub is-either-spec : {M : Type 1} → statement M
 is-either-spec = tie.close (tie.spec is-word-requires is-word-requires-2 returns)

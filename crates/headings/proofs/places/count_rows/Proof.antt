@@ -2,7 +2,7 @@
 use mathlib.Core.Path.{_≡_, sym, ap, _∙_}
 use mathlib.Core.Logic.{⊎-elim}
 use mathlib.Core.List.{List}
-use Prim.Native.Nat.{ℕ, _+_, _-_}
+use Prim.Native.Nat.{ℕ, _+_, _-_, _<_}
 use native.Mathlib.Omega.{arith}
 use borrow.Author.Needs.{needs}
 use lib.ListN.{length}
@@ -31,11 +31,14 @@ line-of c = c .first-line .result .now
 abbrev line-in : tie.After-first-line-length Inv-loop μ-loop → tie.After-first-line Inv-loop μ-loop
 line-in c = c .before .before .before .before .before .before .before
 
+more-left : (c : tie.After-first-line Inv-loop μ-loop) → turn-of c .loop .start < length (text-of c)
+more-left c = c .before .before .loop-test .taken
+
 read : (c : tie.After-first-line-length Inv-loop μ-loop) → let first = line-in c in
     LineAt (text-of first) (turn-of first .loop .start) (line-of first) (turn-of first .loop .start + c .first-line-length .result)
 read c =
     let first = line-in c in
-    line-read (text-of first) (turn-of first .loop .start) (line-of first) (first .first-line .ensures) (omega arith)
+    line-read (text-of first) (turn-of first .loop .start) (line-of first) (first .first-line .ensures) (more-left first)
     (c .first-line-length .result) (c .first-line-length .ensures)
 
 told-heading : (c : tie.After-is-heading Inv-loop μ-loop) → let first = c .before .before in
@@ -50,10 +53,10 @@ loop-holds : tie.Need-loop-holds Inv-loop μ-loop
 loop-holds c = count-begins (c .before .args .text .now) (c .before .args .separator) (c .before .args .from) (c .before .pre)
 
 sub-first-line : tie.Need-sub-first-line Inv-loop μ-loop
-sub-first-line c = search needs
+sub-first-line c = c .before .loop .inv .within
 
 part-first-line-start : tie.Need-part-first-line-start Inv-loop μ-loop
-part-first-line-start c = search needs
+part-first-line-start c = c .before .loop .inv .within
 
 part-first-line-end : tie.Need-part-first-line-end Inv-loop μ-loop
 part-first-line-end c = search needs
@@ -72,7 +75,7 @@ returns c =
     let first = c .before .before .before in
     let turn = turn-of first in
     let args = turn .before .before .args in
-    let parts = line-and-others (text-of first) (turn .loop .start) (line-of first) (first .first-line .ensures) (omega arith) in
+    let parts = line-and-others (text-of first) (turn .loop .start) (line-of first) (first .first-line .ensures) (more-left first) in
     all-counted (text-of first) (args .separator) (args .from) (turn .loop .rows) (turn .loop .start) (turn .loop .inv)
     (no-rows-from-heading (args .separator) _ (line-of first) _ parts (sym (told-heading (c .before)) ∙ c .if1 .taken))
 
@@ -83,10 +86,10 @@ add-rows : tie.Need-add-rows Inv-loop μ-loop
 add-rows c = search needs
 
 sub-first-line-length : tie.Need-sub-first-line-length Inv-loop μ-loop
-sub-first-line-length c = search needs
+sub-first-line-length c = turn-of (c .before .before .before .before .before) .loop .inv .within
 
 part-first-line-length-start : tie.Need-part-first-line-length-start Inv-loop μ-loop
-part-first-line-length-start c = search needs
+part-first-line-length-start c = turn-of (c .before .before .before .before .before) .loop .inv .within
 
 part-first-line-length-end : tie.Need-part-first-line-length-end Inv-loop μ-loop
 part-first-line-length-end c = search needs

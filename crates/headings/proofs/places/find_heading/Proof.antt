@@ -29,8 +29,8 @@ line c = c .before .before .before .first-line .result .now
 read : (c : tie.After-first-line-length Inv-loop μ-loop)
     → LineAt (text c) (turn-of c .loop .start) (line c) (turn-of c .loop .start + c .first-line-length .result)
 read c =
-    let first = c .before .before .before .first-line .ensures in
-    line-read (text c) (turn-of c .loop .start) (line c) first (omega arith) (c .first-line-length .result) (c .first-line-length .ensures)
+    let first = c .before .before .before in
+    line-read (text c) (turn-of c .loop .start) (line c) (first .first-line .ensures) (first .before .before .loop-test .taken) (c .first-line-length .result) (c .first-line-length .ensures)
 
 told : (c : tie.After-same-kind Inv-loop μ-loop) → let args = turn-of (c .before) .before .before .args in
     c .same-kind .result ≡ same-kind (kind-of (args .separator) (line (c .before))) (args .heading)
@@ -42,10 +42,10 @@ loop-holds : tie.Need-loop-holds Inv-loop μ-loop
 loop-holds c = search-begins (c .before .args .text .now) (c .before .args .separator) (c .before .args .heading)
 
 sub-first-line : tie.Need-sub-first-line Inv-loop μ-loop
-sub-first-line c = search needs
+sub-first-line c = c .before .loop .inv .within
 
 part-first-line-start : tie.Need-part-first-line-start Inv-loop μ-loop
-part-first-line-start c = search needs
+part-first-line-start c = c .before .loop .inv .within
 
 part-first-line-end : tie.Need-part-first-line-end Inv-loop μ-loop
 part-first-line-end c = search needs
@@ -57,10 +57,10 @@ kind-of-requires : tie.Need-kind-of-requires Inv-loop μ-loop
 kind-of-requires c κs = search needs
 
 sub-first-line-length : tie.Need-sub-first-line-length Inv-loop μ-loop
-sub-first-line-length c = search needs
+sub-first-line-length c = c .before .before .before .before .loop .inv .within
 
 part-first-line-length-start : tie.Need-part-first-line-length-start Inv-loop μ-loop
-part-first-line-length-start c = search needs
+part-first-line-length-start c = c .before .before .before .before .loop .inv .within
 
 part-first-line-length-end : tie.Need-part-first-line-length-end Inv-loop μ-loop
 part-first-line-length-end c = search needs

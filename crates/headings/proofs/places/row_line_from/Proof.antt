@@ -2,7 +2,7 @@
 use mathlib.Core.Path.{_≡_, sym, ap, _∙_}
 use mathlib.Core.Bool.{_&&_}
 use mathlib.Core.List.{List, _∷_}
-use Prim.Native.Nat.{ℕ, _+_, _-_}
+use Prim.Native.Nat.{ℕ, _+_, _-_, _<_}
 use native.Mathlib.Omega.{arith}
 use borrow.Author.Needs.{needs}
 use lib.Dec.{leb}
@@ -31,9 +31,12 @@ text-of c = turn-of c .before .before .args .text .now
 abbrev line-in : tie.After-first-line Inv-loop μ-loop → List ℕ
 line-in c = c .first-line .result .now
 
+more-left : (c : tie.After-first-line Inv-loop μ-loop) → turn-of c .loop .start < length (text-of c)
+more-left c = c .before .before .loop-test .taken
+
 parts : (c : tie.After-first-line Inv-loop μ-loop) → let rest = drop (turn-of c .loop .start) (text-of c) in
     lines rest ≡ line-in c ∷ others-of (lines rest)
-parts c = line-and-others (text-of c) (turn-of c .loop .start) (line-in c) (c .first-line .ensures) (omega arith)
+parts c = line-and-others (text-of c) (turn-of c .loop .start) (line-in c) (c .first-line .ensures) (more-left c)
 
 told-heading : (c : tie.After-is-heading Inv-loop μ-loop) → let first = c .before .before in
     c .is-heading .result ≡ is-heading (kind-of (turn-of first .before .before .args .separator) (line-in first))
@@ -49,10 +52,10 @@ loop-holds c =
     row-search-begins (args .text .now) (args .separator) (args .from) (args .number) (args .row) (c .before .pre .0) (c .before .pre .1)
 
 sub-first-line : tie.Need-sub-first-line Inv-loop μ-loop
-sub-first-line c = search needs
+sub-first-line c = c .before .loop .inv .within
 
 part-first-line-start : tie.Need-part-first-line-start Inv-loop μ-loop
-part-first-line-start c = search needs
+part-first-line-start c = c .before .loop .inv .within
 
 part-first-line-end : tie.Need-part-first-line-end Inv-loop μ-loop
 part-first-line-end c = search needs
@@ -94,10 +97,10 @@ left-after-requires : tie.Need-left-after-requires Inv-loop μ-loop
 left-after-requires c κs = search needs
 
 sub-first-line-length : tie.Need-sub-first-line-length Inv-loop μ-loop
-sub-first-line-length c = search needs
+sub-first-line-length c = turn-of (c .before .before .before .before .before .before) .loop .inv .within
 
 part-first-line-length-start : tie.Need-part-first-line-length-start Inv-loop μ-loop
-part-first-line-length-start c = search needs
+part-first-line-length-start c = turn-of (c .before .before .before .before .before .before) .loop .inv .within
 
 part-first-line-length-end : tie.Need-part-first-line-length-end Inv-loop μ-loop
 part-first-line-length-end c = search needs
@@ -115,7 +118,7 @@ read : (c : tie.After-first-line-length Inv-loop μ-loop) → let first = tested
     LineAt (text-of first) (turn-of first .loop .start) (line-in first) (turn-of first .loop .start + c .first-line-length .result)
 read c =
     let first = tested-in c .before .before .before .before in
-    line-read (text-of first) (turn-of first .loop .start) (line-in first) (first .first-line .ensures) (omega arith)
+    line-read (text-of first) (turn-of first .loop .start) (line-in first) (first .first-line .ensures) (more-left first)
     (c .first-line-length .result) (c .first-line-length .ensures)
 
 loop-less : tie.Need-loop-less Inv-loop μ-loop

@@ -40,16 +40,19 @@ room turn = length (turn .before .before .args .list .now)
 abbrev left : tie.At-loop Inv-loop μ-loop → ℕ → ℤ → List ℕ → RowNumbers
 left turn cells figure others = openings-left (separator turn) (room turn) cells others
 
+few-cells : (turn : tie.At-loop Inv-loop μ-loop) → turn .loop .cells ≤ 32
+few-cells turn = omega (arith, turn .loop .inv .cells-within, turn .before .before .pre .list-short)
+
 loop-holds : tie.Need-loop-holds Inv-loop μ-loop
 loop-holds c = rw (sub-zero (length (c .before .args .list .now))) (nothing-read _ _ _)
 
 -- ---- Blank from here on, or full
 
 sub-find : tie.Need-sub-find Inv-loop μ-loop
-sub-find c = search needs
+sub-find c = c .loop .inv .start-within
 
 part-find-start : tie.Need-part-find-start Inv-loop μ-loop
-part-find-start c = search needs
+part-find-start c = c .loop .inv .start-within
 
 part-find-end : tie.Need-part-find-end Inv-loop μ-loop
 part-find-end c = search needs
@@ -71,8 +74,11 @@ from-there c =
     let turn = c .before .before in
     from-found-in-rest (NeitherSpaceNor (separator turn)) (line turn) (turn .loop .start) (c .find .result) (turn .loop .inv .start-within) (c .find .ensures)
 
+something-follows : (c : tie.Else1 Inv-loop μ-loop) → found (c .before) < length (line (c .before .before .before))
+something-follows c = omega (arith, found-within (c .before), c .if1 .left)
+
 add-if1 : tie.Need-add-if1 Inv-loop μ-loop
-add-if1 c = let within = found-within c in search needs
+add-if1 c = omega (arith, found-within c, c .before .before .before .before .pre .line-short)
 
 same-length : tie.Need-same-length Inv-loop μ-loop
 same-length c = c .before .before .before .loop .inv .same-length
@@ -81,10 +87,10 @@ returns : tie.Need-returns Inv-loop μ-loop
 returns c =
     let turn = c .before .before .before in
     openings-right (turn .loop .inv)
-    (nothing-follows (separator turn) (room turn) (turn .loop .cells) (line turn) (rest turn) (found (c .before)) (from-there (c .before)) (omega arith))
+    (nothing-follows (separator turn) (room turn) (turn .loop .cells) (line turn) (rest turn) (found (c .before)) (from-there (c .before)) (omega (arith, c .if1 .taken)))
 
 add-t18 : tie.Need-add-t18 Inv-loop μ-loop
-add-t18 c = search needs
+add-t18 c = omega (arith, few-cells (c .before .before .before .before))
 
 same-length-2 : tie.Need-same-length-2 Inv-loop μ-loop
 same-length-2 c = c .before .before .before .before .loop .inv .same-length
@@ -93,18 +99,17 @@ returns-2 : tie.Need-returns-2 Inv-loop μ-loop
 returns-2 c =
     let searched = c .before .before in
     let turn = searched .before .before in
-    let within = found-within searched in
-    let same = turn .loop .inv .same-length in
-    let refused = no-room-left (separator turn) (room turn) (turn .loop .cells) (line turn) (rest turn) (found searched) (from-there searched) (omega arith) (omega arith) in
+    let full : room turn ≤ turn .loop .cells = omega (arith, turn .loop .inv .same-length, c .if2 .taken) in
+    let refused = no-room-left (separator turn) (room turn) (turn .loop .cells) (line turn) (rest turn) (found searched) (from-there searched) (something-follows (c .before)) full in
     openings-wrong (turn .loop .inv) refused refl
 
 -- ---- A cell more
 
 sub-first-cell : tie.Need-sub-first-cell Inv-loop μ-loop
-sub-first-cell c = search needs
+sub-first-cell c = c .before .before .before .before .loop .inv .start-within
 
 part-first-cell-start : tie.Need-part-first-cell-start Inv-loop μ-loop
-part-first-cell-start c = search needs
+part-first-cell-start c = c .before .before .before .before .loop .inv .start-within
 
 part-first-cell-end : tie.Need-part-first-cell-end Inv-loop μ-loop
 part-first-cell-end c = search needs
@@ -120,7 +125,7 @@ abbrev turn-of : tie.After-entry-in Inv-loop μ-loop → tie.At-loop Inv-loop μ
 turn-of c = c .before .before .before .before .before .before .before
 
 one-fits : (c : tie.After-entry-in Inv-loop μ-loop) → turn-of c .loop .cells < length (turn-of c .loop .list)
-one-fits c = omega (arith, turn-of c .loop .inv .cells-within, turn-of c .loop .inv .same-length)
+one-fits c = omega (arith, turn-of c .loop .inv .cells-within, turn-of c .loop .inv .same-length, c .before .before .before .if2 .left)
 
 -- the line goes on with the cell's entry
 goes-on : (c : tie.After-entry-in Inv-loop μ-loop) → let turn = turn-of c in let cells = turn .loop .cells in
@@ -129,10 +134,8 @@ goes-on : (c : tie.After-entry-in Inv-loop μ-loop) → let turn = turn-of c in 
 goes-on c =
     let searched = c .before .before .before .before .before in
     let turn = turn-of c in
-    let within = found-within searched in
-    let more = one-fits c in
-    let same = turn .loop .inv .same-length in
-    opening-follows (separator turn) (room turn) (turn .loop .cells) (line turn) (rest turn) (found searched) (from-there searched) (omega arith) (omega arith)
+    let more : turn .loop .cells < room turn = omega (arith, one-fits c, turn .loop .inv .same-length) in
+    opening-follows (separator turn) (room turn) (turn .loop .cells) (line turn) (rest turn) (found searched) (from-there searched) (something-follows (c .before .before .before .before)) more
     (cell-here (separator turn) (line turn) (turn .loop .start) (turn .loop .inv .start-within) (c .before .first-cell .ensures)) (c .entry-in .ensures)
 
 enum-known-entry : tie.Need-enum-known-entry Inv-loop μ-loop
@@ -142,7 +145,7 @@ enum-told : tie.Need-enum-told Inv-loop μ-loop
 enum-told c = search needs
 
 add-wrong-cell : tie.Need-add-wrong-cell Inv-loop μ-loop
-add-wrong-cell c = search needs
+add-wrong-cell c = omega (arith, few-cells (turn-of (c .before .before)))
 
 wrong-cell-requires : tie.Need-wrong-cell-requires Inv-loop μ-loop
 wrong-cell-requires c κs = search needs
@@ -159,16 +162,16 @@ returns-3 c =
     (c .wrong-cell .ensures ∙ ap (entry-read (turn .loop .cells + 1)) told)
 
 mul-amount : tie.Need-mul-amount Inv-loop μ-loop
-mul-amount c = let more = one-fits (c .before .before .before) in search needs
+mul-amount c = omega (arith, few-cells (turn-of (c .before .before .before)))
 
 slice-set-from-amount : tie.Need-slice-set-from-amount Inv-loop μ-loop
 slice-set-from-amount c = one-fits (c .before .before .before)
 
 sub-first-cell-length : tie.Need-sub-first-cell-length Inv-loop μ-loop
-sub-first-cell-length c = search needs
+sub-first-cell-length c = turn-of (c .before .before .before) .loop .inv .start-within
 
 part-first-cell-length-start : tie.Need-part-first-cell-length-start Inv-loop μ-loop
-part-first-cell-length-start c = search needs
+part-first-cell-length-start c = turn-of (c .before .before .before) .loop .inv .start-within
 
 part-first-cell-length-end : tie.Need-part-first-cell-length-end Inv-loop μ-loop
 part-first-cell-length-end c = search needs
@@ -181,13 +184,15 @@ abbrev called : tie.After-first-cell-length Inv-loop μ-loop → tie.After-entry
 called c = c .before .before .before .before .before
 
 add-start : tie.Need-add-start Inv-loop μ-loop
-add-start c = let within = cell-within (turn-of (called c) .loop .inv) (c .first-cell-length .ensures .0) in search needs
+add-start c =
+    let turn = turn-of (called c) in
+    omega (arith, cell-within (turn .loop .inv) (c .first-cell-length .ensures .0), turn .before .before .pre .line-short)
 
 add-cells : tie.Need-add-cells Inv-loop μ-loop
-add-cells c = let more = one-fits (called c) in search needs
+add-cells c = omega (arith, few-cells (turn-of (called c)))
 
 loop-less : tie.Need-loop-less Inv-loop μ-loop
-loop-less c = let more = one-fits (called c) in omega (arith, turn-of (called c) .loop .inv .same-length)
+loop-less c = omega (arith, one-fits (called c), turn-of (called c) .loop .inv .same-length)
 
 loop-again : tie.Need-loop-again Inv-loop μ-loop
 loop-again c =

@@ -1,7 +1,7 @@
 -- Each turn reads one cell more (`CellByCell`); after the last number comes the row's end.
 use mathlib.Core.Path.{_≡_, ap, _∙_}
 use mathlib.Core.List.{List}
-use Prim.Native.Nat.{ℕ, suc, _+_, _-_}
+use Prim.Native.Nat.{ℕ, suc, _+_, _-_, _≤_, _<_}
 use native.Mathlib.Nat.{sub-zero}
 use native.Mathlib.Omega.{arith}
 use borrow.Author.Needs.{needs}
@@ -40,16 +40,19 @@ left turn = let args = turn .before .before .args in numbers-left (args .separat
 part-is : (turn : tie.At-loop Inv-loop μ-loop) → part-from (line turn) (turn .loop .start) ≡ drop (turn .loop .start) (line turn)
 part-is turn = whole-rest (line turn) (turn .loop .start) (turn .loop .inv .start-within)
 
+few-cells : (turn : tie.At-loop Inv-loop μ-loop) → turn .loop .cells ≤ 32
+few-cells turn = omega (arith, turn .loop .inv .cells-within, turn .before .before .pre .list-short)
+
 loop-holds : tie.Need-loop-holds Inv-loop μ-loop
 loop-holds c = rw (sub-zero (length (c .before .args .row .now))) (nothing-read _ _ _)
 
 -- ---- A turn
 
 sub-first-cell : tie.Need-sub-first-cell Inv-loop μ-loop
-sub-first-cell c = search needs
+sub-first-cell c = c .before .loop .inv .start-within
 
 part-first-cell-start : tie.Need-part-first-cell-start Inv-loop μ-loop
-part-first-cell-start c = search needs
+part-first-cell-start c = c .before .loop .inv .start-within
 
 part-first-cell-end : tie.Need-part-first-cell-end Inv-loop μ-loop
 part-first-cell-end c = search needs
@@ -60,19 +63,25 @@ first-cell-requires c κs = search needs
 entry-in-requires : tie.Need-entry-in-requires Inv-loop μ-loop
 entry-in-requires c κs = search needs
 
+-- the turn in which the cell is read
+abbrev turn-of : tie.After-entry-in Inv-loop μ-loop → tie.At-loop Inv-loop μ-loop
+turn-of c = c .before .before .before .before
+
+one-fits : (c : tie.After-entry-in Inv-loop μ-loop) → turn-of c .loop .cells < length (turn-of c .loop .row)
+one-fits c = c .before .before .before .loop-test .taken
+
 -- the line goes on with the cell's entry
 goes-on : (c : tie.After-entry-in Inv-loop μ-loop) →
-    let turn = c .before .before .before .before in
+    let turn = turn-of c in
     let rest = drop (turn .loop .start) (line turn) in
     left turn (turn .loop .cells) (toZ w64 (turn .loop .before)) rest
     ≡ after-entry (turn .loop .cells) (c .entry-in .result) (λ figure. left turn (suc (turn .loop .cells)) figure (after-cell (separator turn) rest))
 goes-on c =
-    let turn = c .before .before .before .before in
+    let turn = turn-of c in
     let args = turn .before .before .args in
     let start = turn .loop .start in
-    let same = turn .loop .inv .same-length in
     number-follows (args .separator) (args .missing) (args .cumulated) (length (args .row .now)) (turn .loop .cells) (toZ w64 (turn .loop .before))
-    (drop start (line turn)) (omega arith) (cell-here (separator turn) (line turn) start (turn .loop .inv .start-within) (c .before .first-cell .ensures))
+    (drop start (line turn)) (omega (arith, one-fits c, turn .loop .inv .same-length)) (cell-here (separator turn) (line turn) start (turn .loop .inv .start-within) (c .before .first-cell .ensures))
     (c .entry-in .ensures)
 
 enum-known-entry : tie.Need-enum-known-entry Inv-loop μ-loop
@@ -82,33 +91,33 @@ enum-told : tie.Need-enum-told Inv-loop μ-loop
 enum-told c = search needs
 
 add-wrong-cell : tie.Need-add-wrong-cell Inv-loop μ-loop
-add-wrong-cell c = search needs
+add-wrong-cell c = omega (arith, few-cells (turn-of (c .before .before)))
 
 wrong-cell-requires : tie.Need-wrong-cell-requires Inv-loop μ-loop
 wrong-cell-requires c κs = search needs
 
 same-length : tie.Need-same-length Inv-loop μ-loop
-same-length c = c .before .before .before .before .before .before .before .loop .inv .same-length
+same-length c = turn-of (c .before .before .before) .loop .inv .same-length
 
 returns : tie.Need-returns Inv-loop μ-loop
 returns c =
     let called = c .before .before .before in
-    let turn = called .before .before .before .before in
+    let turn = turn-of called in
     let told = c .before .enum-told .given .1 in
     row-wrong (turn .loop .inv) (cell-wrong (turn .loop .inv) (separator turn) (left turn) (goes-on called) told)
     (c .wrong-cell .ensures ∙ ap (entry-read (turn .loop .cells + 1)) told)
 
 mul-amount : tie.Need-mul-amount Inv-loop μ-loop
-mul-amount c = search needs
+mul-amount c = omega (arith, few-cells (turn-of (c .before .before .before)))
 
 slice-set-from-amount : tie.Need-slice-set-from-amount Inv-loop μ-loop
-slice-set-from-amount c = search needs
+slice-set-from-amount c = one-fits (c .before .before .before)
 
 sub-first-cell-length : tie.Need-sub-first-cell-length Inv-loop μ-loop
-sub-first-cell-length c = search needs
+sub-first-cell-length c = turn-of (c .before .before .before) .loop .inv .start-within
 
 part-first-cell-length-start : tie.Need-part-first-cell-length-start Inv-loop μ-loop
-part-first-cell-length-start c = search needs
+part-first-cell-length-start c = turn-of (c .before .before .before) .loop .inv .start-within
 
 part-first-cell-length-end : tie.Need-part-first-cell-length-end Inv-loop μ-loop
 part-first-cell-length-end c = search needs
@@ -116,36 +125,38 @@ part-first-cell-length-end c = search needs
 first-cell-length-requires : tie.Need-first-cell-length-requires Inv-loop μ-loop
 first-cell-length-requires c κs = search needs
 
+-- where the cell was read, seen from after its length
+abbrev called : tie.After-first-cell-length Inv-loop μ-loop → tie.After-entry-in Inv-loop μ-loop
+called c = c .before .before .before .before .before
+
 add-start : tie.Need-add-start Inv-loop μ-loop
 add-start c =
-    let turn = c .before .before .before .before .before .before .before .before .before in
-    let within = cell-within (turn .loop .inv) (c .first-cell-length .ensures .0) in
-    search needs
+    let turn = turn-of (called c) in
+    omega (arith, cell-within (turn .loop .inv) (c .first-cell-length .ensures .0), turn .before .before .pre .line-short)
 
 add-cells : tie.Need-add-cells Inv-loop μ-loop
-add-cells c = search needs
+add-cells c = omega (arith, few-cells (turn-of (called c)))
 
 loop-less : tie.Need-loop-less Inv-loop μ-loop
-loop-less c = search needs
+loop-less c = omega (arith, one-fits (called c), turn-of (called c) .loop .inv .same-length)
 
 loop-again : tie.Need-loop-again Inv-loop μ-loop
 loop-again c =
     let known = c .before .before in
-    let called = known .before .before .before in
-    let turn = called .before .before .before .before in
+    let turn = turn-of (called c) in
     let told = known .before .entry .given in
     let amount-held = held (told .0 .0) (known .known-told .given .0 .1) in
     let figure-held = held (told .0 .1 .0) (known .known-told .given .1 .0 .1) in
     rw (amount-held, figure-held)
-    (cell-read (turn .loop .inv) (separator turn) (left turn) (goes-on called) (told .1) (omega arith) (c .first-cell-length .result) (c .first-cell-length .ensures))
+    (cell-read (turn .loop .inv) (separator turn) (left turn) (goes-on (called c)) (told .1) (one-fits (called c)) (c .first-cell-length .result) (c .first-cell-length .ensures))
 
 -- ---- The end
 
 sub-row-end : tie.Need-sub-row-end Inv-loop μ-loop
-sub-row-end c = search needs
+sub-row-end c = c .before .loop .inv .start-within
 
 part-row-end-start : tie.Need-part-row-end-start Inv-loop μ-loop
-part-row-end-start c = search needs
+part-row-end-start c = c .before .loop .inv .start-within
 
 part-row-end-end : tie.Need-part-row-end-end Inv-loop μ-loop
 part-row-end-end c = search needs

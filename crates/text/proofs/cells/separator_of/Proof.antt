@@ -1,7 +1,7 @@
 -- What is left of the text has the separator of the whole; each turn passes a line.
 use mathlib.Core.Path.{_≡_, sym, ap, _∙_}
 use mathlib.Core.List.{List, _∷_}
-use Prim.Native.Nat.{ℕ, _+_, _-_, _≤_}
+use Prim.Native.Nat.{ℕ, _+_, _-_, _≤_, _<_}
 use native.Mathlib.Omega.{arith}
 use lib.ListN.{length, drop}
 use borrow.Author.Needs.{needs}
@@ -27,25 +27,28 @@ text c = turn-of c .before .before .args .text .now
 abbrev line : tie.After-find Inv-loop μ-loop → List ℕ
 line c = c .before .first-line .result .now
 
+more-left : (c : tie.After-find Inv-loop μ-loop) → turn-of c .loop .start < length (text c)
+more-left c = c .before .before .before .loop-test .taken
+
 first-line : (c : tie.After-find Inv-loop μ-loop) → let start = turn-of c .loop .start in
     lines (drop start (text c)) ≡ line c ∷ others-of (lines (drop start (text c)))
-first-line c = line-and-others (text c) (turn-of c .loop .start) (line c) (c .before .first-line .ensures) (omega arith)
+first-line c = line-and-others (text c) (turn-of c .loop .start) (line c) (c .before .first-line .ensures) (more-left c)
 
 read : (c : tie.After-first-line-length Inv-loop μ-loop) → let found = c .before .before .before in
     LineAt (text found) (turn-of found .loop .start) (line found) (turn-of found .loop .start + c .first-line-length .result)
 read c =
     let found = c .before .before .before in
-    line-read (text found) (turn-of found .loop .start) (line found) (found .before .first-line .ensures) (omega arith)
+    line-read (text found) (turn-of found .loop .start) (line found) (found .before .first-line .ensures) (more-left found)
     (c .first-line-length .result) (c .first-line-length .ensures)
 
 loop-holds : tie.Need-loop-holds Inv-loop μ-loop
 loop-holds c = search needs
 
 sub-first-line : tie.Need-sub-first-line Inv-loop μ-loop
-sub-first-line c = search needs
+sub-first-line c = c .before .loop .inv .0
 
 part-first-line-start : tie.Need-part-first-line-start Inv-loop μ-loop
-part-first-line-start c = search needs
+part-first-line-start c = c .before .loop .inv .0
 
 part-first-line-end : tie.Need-part-first-line-end Inv-loop μ-loop
 part-first-line-end c = search needs
@@ -66,10 +69,10 @@ returns c =
     separator-here (line found) _ (found .find .result) (found .find .ensures) (c .before .if1 .taken) ∙ sym (ap separator-in (first-line found)) ∙ turn .loop .inv .1
 
 sub-first-line-length : tie.Need-sub-first-line-length Inv-loop μ-loop
-sub-first-line-length c = search needs
+sub-first-line-length c = turn-of (c .before) .loop .inv .0
 
 part-first-line-length-start : tie.Need-part-first-line-length-start Inv-loop μ-loop
-part-first-line-length-start c = search needs
+part-first-line-length-start c = turn-of (c .before) .loop .inv .0
 
 part-first-line-length-end : tie.Need-part-first-line-length-end Inv-loop μ-loop
 part-first-line-length-end c = search needs

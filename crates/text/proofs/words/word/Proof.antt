@@ -42,10 +42,10 @@ loop-holds c =
     )
 
 sub-find : tie.Need-sub-find Inv-loop μ-loop
-sub-find c = search needs
+sub-find c = c .before .loop .inv .0
 
 part-find-start : tie.Need-part-find-start Inv-loop μ-loop
-part-find-start c = search needs
+part-find-start c = c .before .loop .inv .0
 
 part-find-end : tie.Need-part-find-end Inv-loop μ-loop
 part-find-end c = search needs
@@ -109,10 +109,10 @@ loop-again c =
     )
 
 sub-find-3 : tie.Need-sub-find-3 Inv-loop μ-loop
-sub-find-3 c = search needs
+sub-find-3 c = c .before .loop .inv .0
 
 part-find-start-3 : tie.Need-part-find-start-3 Inv-loop μ-loop
-part-find-start-3 c = search needs
+part-find-start-3 c = c .before .loop .inv .0
 
 part-find-end-3 : tie.Need-part-find-end-3 Inv-loop μ-loop
 part-find-end-3 c = search needs

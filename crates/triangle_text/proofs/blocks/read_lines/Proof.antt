@@ -2,7 +2,7 @@
 use mathlib.Core.Path.{_≡_, refl, sym, ap, _∙_}
 use mathlib.Core.Bool.{Bool, false}
 use mathlib.Core.List.{List}
-use Prim.Native.Nat.{ℕ, suc, _+_, _-_}
+use Prim.Native.Nat.{ℕ, suc, _+_, _-_, _≤_, _<_}
 use native.Mathlib.Numerals.{add-one}
 use native.Mathlib.Omega.{arith}
 use borrow.Author.Needs.{needs}
@@ -41,6 +41,12 @@ separator c = turn c .before .before .args .separator
 abbrev content : tie.After-is-heading Inv-loop μ-loop → List ℕ
 content c = c .before .before .first-line .result .now
 
+more-left : (c : tie.After-is-heading Inv-loop μ-loop) → turn c .loop .start < length (text c)
+more-left c = c .before .before .before .before .loop-test .taken
+
+count-within : (t : tie.At-loop Inv-loop μ-loop) → t .loop .count ≤ length (t .loop .list)
+count-within t = omega (arith, t .loop .inv .count-within, t .loop .inv .same-length)
+
 told-heading : (c : tie.After-is-heading Inv-loop μ-loop) → c .is-heading .result ≡ is-heading (kind-of (separator c) (content c))
 told-heading c = c .is-heading .ensures ∙ ap is-heading (c .before .kind-of .ensures)
 
@@ -48,10 +54,10 @@ loop-holds : tie.Need-loop-holds Inv-loop μ-loop
 loop-holds c = nothing-read (c .before .pre)
 
 sub-first-line : tie.Need-sub-first-line Inv-loop μ-loop
-sub-first-line c = search needs
+sub-first-line c = c .before .loop .inv .start-within
 
 part-first-line-start : tie.Need-part-first-line-start Inv-loop μ-loop
-part-first-line-start c = search needs
+part-first-line-start c = c .before .loop .inv .start-within
 
 part-first-line-end : tie.Need-part-first-line-end Inv-loop μ-loop
 part-first-line-end c = search needs
@@ -63,7 +69,9 @@ kind-of-requires : tie.Need-kind-of-requires Inv-loop μ-loop
 kind-of-requires c κs = search needs
 
 add-line : tie.Need-add-line Inv-loop μ-loop
-add-line c = let h = c .before .before .before .before .loop .inv .few-lines in search needs
+add-line c =
+    let t = c .before .before .before .before in
+    omega (arith, t .loop .inv .few-lines, t .loop .inv .start-within, t .before .before .pre .short)
 
 is-heading-requires : tie.Need-is-heading-requires Inv-loop μ-loop
 is-heading-requires c κs = search needs
@@ -75,7 +83,7 @@ returns : tie.Need-returns Inv-loop μ-loop
 returns c =
     let k = c .before in
     let t = turn k in
-    heading-next (t .loop .inv) (line-and-others (text k) (t .loop .start) (content k) (k .before .before .first-line .ensures) (omega arith))
+    heading-next (t .loop .inv) (line-and-others (text k) (t .loop .start) (content k) (k .before .before .first-line .ensures) (more-left k))
     (sym (told-heading k) ∙ c .if1 .taken)
 
 same-kind-requires : tie.Need-same-kind-requires Inv-loop μ-loop
@@ -85,10 +93,10 @@ mul-read-line : tie.Need-mul-read-line Inv-loop μ-loop
 mul-read-line c = search needs
 
 sub-read-line : tie.Need-sub-read-line Inv-loop μ-loop
-sub-read-line c = search needs
+sub-read-line c = count-within (turn (c .before .before))
 
 part-read-line-start : tie.Need-part-read-line-start Inv-loop μ-loop
-part-read-line-start c = search needs
+part-read-line-start c = count-within (turn (c .before .before))
 
 part-read-line-end : tie.Need-part-read-line-end Inv-loop μ-loop
 part-read-line-end c = search needs
@@ -138,6 +146,13 @@ read-line-requires c κs =
       rw (part-length c) (inv .room),
     )
 
+-- the list as it comes back
+abbrev list-then : tie.After-list Inv-loop μ-loop → List ℤ
+list-then c = let l = turn (heading-asked c) .loop in putMid (l .count) (length (l .list) - l .count) (l .list) (part c)
+
+length-kept : (c : tie.After-list Inv-loop μ-loop) → length (list-then c) ≡ length (turn (heading-asked c) .before .before .args .list .now)
+length-kept c = c .list .given .1 ∙ turn (heading-asked c) .loop .inv .same-length
+
 enum-told : tie.Need-enum-told Inv-loop μ-loop
 enum-told c = search needs
 
@@ -145,27 +160,30 @@ enum-told-2 : tie.Need-enum-told-2 Inv-loop μ-loop
 enum-told-2 c = search needs
 
 same-length-2 : tie.Need-same-length-2 Inv-loop μ-loop
-same-length-2 c = c .before .before .list .given .1 ∙ turn (heading-asked (c .before .before)) .loop .inv .same-length
+same-length-2 c = length-kept (c .before .before)
 
 returns-2 : tie.Need-returns-2 Inv-loop μ-loop
 returns-2 c =
     let a = c .before .before in
     let k = heading-asked a in
     let t = turn k in
-    fault-next (t .loop .inv) (line-and-others (text k) (t .loop .start) (content k) (k .before .before .first-line .ensures) (omega arith))
-    (no-heading a) (line-told a .read .fault-is) (c .enum-told2 .given .1) _ (a .list .given .1 ∙ t .loop .inv .same-length)
+    fault-next (t .loop .inv) (line-and-others (text k) (t .loop .start) (content k) (k .before .before .first-line .ensures) (more-left k))
+    (no-heading a) (line-told a .read .fault-is) (c .enum-told2 .given .1) _ (length-kept a)
 
 add-count : tie.Need-add-count Inv-loop μ-loop
 add-count c = search needs
 
 rows-after-requires : tie.Need-rows-after-requires Inv-loop μ-loop
-rows-after-requires c κs = search needs
+rows-after-requires c κs =
+    let t = turn (heading-asked (c .before .before .before)) in
+    let inv = t .loop .inv in
+    omega (arith, inv .few-rows, inv .few-lines, inv .start-within, t .before .before .pre .short)
 
 sub-first-line-length : tie.Need-sub-first-line-length Inv-loop μ-loop
-sub-first-line-length c = search needs
+sub-first-line-length c = turn (heading-asked (c .before .before .before .before)) .loop .inv .start-within
 
 part-first-line-length-start : tie.Need-part-first-line-length-start Inv-loop μ-loop
-part-first-line-length-start c = search needs
+part-first-line-length-start c = turn (heading-asked (c .before .before .before .before)) .loop .inv .start-within
 
 part-first-line-length-end : tie.Need-part-first-line-length-end Inv-loop μ-loop
 part-first-line-length-end c = search needs
@@ -182,17 +200,23 @@ passed : (c : tie.After-first-line-length Inv-loop μ-loop) → let k = heading-
     LineAt (text k) start (content k) (start + c .first-line-length .result)
 passed c =
     let k = heading-asked (list-back c) in
-    next.line-read (text k) (turn k .loop .start) (content k) (k .before .before .first-line .ensures) (omega arith)
+    next.line-read (text k) (turn k .loop .start) (content k) (k .before .before .first-line .ensures) (more-left k)
     (c .first-line-length .result) (c .first-line-length .ensures)
 
 back : (c : tie.After-list Inv-loop μ-loop) → let l = turn (heading-asked c) .loop in
-    PartBack (l .list) (putMid (l .count) (length (l .list) - l .count) (l .list) (part c)) (part c) (l .count)
+    PartBack (l .list) (list-then c) (part c) (l .count)
 back c =
     let l = turn (heading-asked c) .loop in
-    part-back (l .list) (part c) (l .count) (length (l .list) - l .count) (omega (arith, l .inv .count-within, l .inv .same-length)) (c .list .given .0)
+    part-back (l .list) (part c) (l .count) (length (l .list) - l .count) (count-within (turn (heading-asked c))) (c .list .given .0)
+
+part-there : (c : tie.After-list Inv-loop μ-loop) → drop (turn (heading-asked c) .loop .count) (list-then c) ≡ part c
+part-there c =
+    let count = turn (heading-asked c) .loop .count in
+    let lent = c .list .given .0 ∙ part-length (c .before .before) in
+    sym (take-all (length (part c)) _ (omega (arith, length-drop count (list-then c), length-kept c, lent))) ∙ back c .part-there
 
 add-start : tie.Need-add-start Inv-loop μ-loop
-add-start c = let h = passed c .within in search needs
+add-start c = omega (arith, passed c .within, turn (heading-asked (list-back c)) .before .before .pre .short)
 
 loop-less : tie.Need-loop-less Inv-loop μ-loop
 loop-less c = omega (arith, passed c .within, passed c .further)
@@ -202,13 +226,10 @@ loop-again c =
     let a = list-back c in
     let l = turn (heading-asked a) .loop in
     let at = passed c in
-    let b = back a in
-    let lent = a .list .given .0 ∙ part-length (a .before .before) in
     let rows = c .before .before .rows-after .ensures ∙ ap (λ r. rows-after r (l .rows)) (told-row a) in
     rw rows
     (line-read (l .inv) (at .parts) (no-heading a) (line-told a) (c .before .before .before .before .enum-told .given .1) refl (omega (arith, at .further)) (at .within)
-    (b .same-length ∙ l .inv .same-length) (b .first-kept)
-    (sym (take-all (length (part a)) _ (omega (arith, length-drop (l .count) (putMid (l .count) (length (l .list) - l .count) (l .list) (part a)), b .same-length, l .inv .same-length, lent))) ∙ b .part-there))
+    (length-kept a) (back a .first-kept) (part-there a))
 
 same-length-3 : tie.Need-same-length-3 Inv-loop μ-loop
 same-length-3 c = c .before .loop .inv .same-length
