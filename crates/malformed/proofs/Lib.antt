@@ -1,5 +1,3 @@
--- The laws of a text that is shown byte by byte, and of one in double quotes; the room of every message; the worked examples.
-pub mod ShownTexts
-pub mod QuotedTexts
+-- The room of every message; the worked examples.
 pub mod MessageRoom
 pub mod Examples

@@ -16,7 +16,7 @@ use Rattle.triangle_text.specs.declared.faults.Expected.{Expected}
 use Rattle.triangle_text.specs.declared.faults.Expected.the-variants.{InHeading, InCell, Incremental, NoFurtherRow}
 use Rattle.printed.specs.Filling.{places}
 use Rattle.printed.proofs.Room.{one-of-two, filled-fits}
-use Rattle.malformed.specs.ShownText.{shown-byte, shown-text}
+use Rattle.met_text.specs.ShownText.{shown-byte, shown-text}
 use Rattle.malformed.specs.Messages.{fault-place, expected-heading, expected-cell, expected-text, fault-line}
 
 fault-place-fits : (line cell : ℕ) → length (fault-place line cell) ≤ 128

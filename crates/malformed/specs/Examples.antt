@@ -1,25 +1,14 @@
 -- Worked examples: what is printed of some malformed texts. docs/FORMAT.md has the first two lines.
 -- The statement is proved in proofs/Examples.antt by computing it.
-use mathlib.Core.Path.{_≡_}
-use mathlib.Core.List.{List, [], _∷_, _++_, map}
-use Prim.Native.Nat.{ℕ}
-use Prim.Native.String.{String}
+use mathlib.Core.List.{List, [], _∷_, _++_}
 use Rattle.figures.specs.Bytes.{bytes}
 use Rattle.text.specs.Bytes.{tab, carriage-return}
 use Rattle.headings.specs.declared.faults.HeadingFault.the-variants.{CumulatedOrIncremental}
 use Rattle.row_text.specs.declared.entries.CellFault.the-variants.{NumberForBlank, WholeNumber}
 use Rattle.triangle_text.specs.declared.faults.Expected.{Expected}
 use Rattle.triangle_text.specs.declared.faults.Expected.the-variants.{InHeading, InCell}
+use Rattle.met_text.specs.Examples.{Printed, _shows_, all-of}
 use Rattle.malformed.specs.Messages.{fault-line, advice}
-use Rattle.malformed.specs.Met.{met-at}
-
-pub record Printed : Type 0 where
-  pub text : List ℕ
-  pub shown : String
-
-infix 70 _shows_
-abbrev pub _shows_ : List ℕ → String → Printed
-text shows shown = record { text = text; shown = shown }
 
 abbrev pub no-number : Expected
 no-number = InCell WholeNumber
@@ -47,26 +36,8 @@ cells =
     ∷ advice no-number (bytes "1E+06") shows "Show the figure in full: no power of ten, no currency and no other letters."
     ∷ []
 
--- what is met at a line and a cell: a thousands comma in quotes is no separator, and a quote that is not closed is a part of its cell
-abbrev pub met : List Printed
-met =
-    met-at 1 0 (bytes " paid   # note") shows "paid"
-    ∷ met-at 1 2 (bytes "40, 50 ,60") shows "50"
-    ∷ met-at 1 4 (bytes "40,50,60") shows ""
-    ∷ met-at 1 1 (bytes " \"1,000\" ,60") shows "\"1,000\""
-    ∷ met-at 1 2 (bytes "60,\"1,000\"") shows "\"1,000\""
-    ∷ met-at 1 1 (bytes "\"1,000") shows "\"1"
-    ∷ met-at 1 1 (bytes "1\",\"2") shows "1\""
-    ∷ []
-
-abbrev pub all-of : List Printed → Type 0
-all-of table = map (λ (p : Printed). p .text) table ≡ map (λ (p : Printed). bytes (p .shown)) table
-
 abbrev pub Messages-hold : Type 0
 Messages-hold = all-of messages
 
 abbrev pub Cells-hold : Type 0
 Cells-hold = all-of cells
-
-abbrev pub Met-holds : Type 0
-Met-holds = all-of met

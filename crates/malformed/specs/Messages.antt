@@ -1,14 +1,13 @@
 -- What is printed of a malformed text. docs/FORMAT.md has the tables of these messages.
-use mathlib.Core.Bool.{Bool, _||_, cond}
+use mathlib.Core.Bool.{_||_, cond}
 use mathlib.Core.List.{List, [], _∷_, _++_}
 use Prim.Native.Nat.{ℕ}
 use Prim.Native.Char.{code}
-use lib.Dec.{ltb, eqb}
+use lib.Dec.{eqb}
 use lib.ListN.{length, getD}
 use Rattle.figures.specs.Bytes.{bytes}
 use Rattle.text.specs.Bytes.{space, number-sign, is-letter}
-use Rattle.text.specs.Search.{before}
-use Rattle.text.specs.declared.search.Sought.the-variants.{Byte}
+use Rattle.text.specs.Search.{has-byte}
 use Rattle.headings.specs.declared.faults.HeadingFault.{HeadingFault}
 use Rattle.headings.specs.declared.faults.HeadingFault.the-variants.{HeadingBeforeRow, FiguresInRow, KnownHeading, HeadingOnce, CumulatedOrIncremental, NothingAfterHeading, NumberAfterCut, YearsAfterCell}
 use Rattle.row_text.specs.declared.entries.CellFault.{CellFault}
@@ -17,7 +16,7 @@ use Rattle.triangle_text.specs.declared.faults.Expected.{Expected}
 use Rattle.triangle_text.specs.declared.faults.Expected.the-variants.{InHeading, InCell, Incremental, NoFurtherRow}
 use Rattle.printed.specs.Counts.{as-number}
 use Rattle.printed.specs.Filling.{filled}
-use Rattle.malformed.specs.ShownText.{shown-text}
+use Rattle.met_text.specs.ShownText.{shown-text}
 use Rattle.malformed.specs.declared.advice.Mistake.{Mistake}
 use Rattle.malformed.specs.declared.advice.Mistake.the-variants.{Comment, SpreadsheetError, Quotes, Brackets, TypographicMinus, Word, PowerOfTen, Other}
 
@@ -67,10 +66,6 @@ advice-of-heading CumulatedOrIncremental = bytes "Cumulated figures are sums alo
 advice-of-heading NothingAfterHeading = []
 advice-of-heading NumberAfterCut = []
 advice-of-heading YearsAfterCell = []
-
--- a byte is in a text where a search finds it before the end
-abbrev pub has-byte : ℕ → List ℕ → Bool
-has-byte byte text = ltb (length (before (Byte byte) text)) (length text)
 
 -- A cell that begins with #: a comment that lacks a space before it, or a spreadsheet's error.
 unfoldable pub after-number-sign : List ℕ → Mistake

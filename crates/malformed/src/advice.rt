@@ -2,6 +2,7 @@
 ghost use mathlib.Core.Path.{_≡_};
 ghost use lib.ListN.{getD};
 ghost use Rattle.printed.specs.Line.{LineIs};
+ghost use Rattle.text.specs.Search.{has-byte};
 ghost use Rattle.malformed.specs.Messages as meaning;
 use headings::faults::HeadingFault;
 use printed::line::Line;
@@ -135,7 +136,7 @@ fn byte_at(text: &[u8], at: usize) -> u8
 }
 
 fn has_byte(text: &[u8], byte: u8) -> bool
-    ensures { λ r. ⌜ r ≡ meaning.has-byte byte (now (text .entry)) ⌝ }
+    ensures { λ r. ⌜ r ≡ has-byte byte (now (text .entry)) ⌝ }
 {
     find(text, Sought::Byte(byte)) < text.len()
 }

@@ -1,17 +1,20 @@
--- A template whose numbers have room, whatever they are.
+-- How long numbers, templates and entries can be, whatever the numbers are.
 use mathlib.Core.Path.{_≡_, _∙_}
 use mathlib.Core.Bool.{Bool, true, false, cond}
 use mathlib.Core.List.{List, [], _∷_, _++_}
-use Prim.Native.Nat.{ℕ, zero, suc, _+_, _*_, _/_, _≤_, _<_}
+use Prim.Native.Nat.{ℕ, zero, suc, _+_, _-_, _*_, _/_, _^_, _≤_, _<_, min, max}
+use native.Mathlib.Nat.{suc-mul}
 use native.Mathlib.Omega.{arith}
 use borrow.Author.Tests.{leb-true, lt-ltb}
 use lib.Dec.{leb, ltb, eqb}
 use lib.IntN.{ℤ, pos, negsuc, natAbs}
-use lib.ListN.{length, getD, drop, length-append}
-use Rattle.figures.specs.Writing.{digit, three-digits, six-digits, comma, point, first-group, grouped-in, grouped, whole-text, amount-text}
+use lib.ListN.{length, getD, drop, replicate, length-append, length-replicate}
+use Rattle.figures.specs.Writing.{space, digit, three-digits, six-digits, comma, point, first-group, grouped-in, grouped, whole-text, amount-text}
 use Rattle.printed.specs.declared.line.Line.{Line}
 use Rattle.printed.specs.Line.{text-of, LineIs}
 use Rattle.printed.specs.Filling.{place, filled, places}
+use Rattle.printed.specs.Counts.{as-number}
+use Rattle.printed.specs.Entries.{set-right, entry, count-text, entries-after}
 use Rattle.printed.proofs.LineTexts.{fitted-whole}
 
 -- ---- Numbers
@@ -48,7 +51,7 @@ amount-length (negsuc n) =
     omega (arith, grouped-in-length 6 (size / 1_000_000), length-append (grouped-in 6 (size / 1_000_000)) (point ∷ six-digits size))
 
 -- a number below 1,000
-pub short-number-length : (n : ℕ) → n < 1_000 → length (whole-text (pos n)) ≤ 3
+short-number-length : (n : ℕ) → n < 1_000 → length (whole-text (pos n)) ≤ 3
 unfolding grouped grouped-in
 short-number-length n below = rw (lt-ltb n 1_000 below) (first-group-length n)
 
@@ -76,3 +79,32 @@ filled-fits most template numbers e = omega (arith, filled-length template numbe
 -- a line that is a text with room for it is the whole of it
 pub whole-line : {r : Line} (text : List ℕ) → length text ≤ 512 → LineIs text r → text-of r ≡ text
 whole-line text h line = line .is ∙ fitted-whole text h
+
+-- ---- Entries
+
+pub set-right-length : (column : ℕ) (text : List ℕ) → length (set-right column text) ≡ max column (length text)
+set-right-length column text =
+    omega (arith, length-append (replicate (column - length text) space) text, length-replicate (column - length text) space)
+
+pub entry-length : (column : ℕ) (text : List ℕ) → length (entry column text) ≡ max column (length text) + 2
+entry-length column text = omega (arith, set-right-length column text)
+
+pub short-count-length : (count : ℕ) → count < 1_000 → length (count-text count) ≤ 3
+short-count-length count below = short-number-length (min count (2 ^ 63 - 1)) (omega arith)
+
+pub count-length : (count : ℕ) → length (count-text count) ≤ 28
+count-length count = number-length (as-number count)
+
+pub entries-length : (text : ℕ → List ℕ) (column most k left : ℕ) → column ≤ most → ((at : ℕ) → k < at → at ≤ k + left → length (text at) ≤ most)
+    → length (entries-after text column k left) ≤ left * (most + 2)
+unfolding entries-after
+entries-length text column most k zero narrow each = omega arith
+entries-length text column most k (suc left) narrow each =
+    omega (
+      arith,
+      length-append (entry column (text (suc k))) (entries-after text column (suc k) left),
+      entry-length column (text (suc k)),
+      each (suc k) (omega arith) (omega arith),
+      suc-mul left (most + 2),
+      entries-length text column most (suc k) left narrow (λ at from to. each at (omega arith) (omega arith)),
+    )

@@ -1,4 +1,5 @@
--- What a line holds, and how a template is filled.
+-- What a line holds, how a template is filled, and the entries of a table's line.
 pub mod Line
 pub mod Counts
 pub mod Filling
+pub mod Entries

@@ -3,12 +3,12 @@ ghost use Prim.Native.Nat.{_≤_};
 ghost use Rattle.method.specs.Limits.{most-accident-years};
 use crate::printing::print_empty_line;
 use crate::printing::print_line;
-use tables::completed_rows::Table;
-use tables::completed_rows::completed_column;
-use tables::completed_rows::completed_row;
-use tables::completed_rows::last_in_part;
-use tables::completed_rows::table_title;
-use tables::completed_rows::years_heading;
+use completed_table::completed_rows::Table;
+use completed_table::completed_rows::completed_column;
+use completed_table::completed_rows::completed_row;
+use completed_table::completed_rows::last_in_part;
+use completed_table::completed_rows::table_title;
+use completed_table::completed_rows::years_heading;
 
 pub(crate) fn print_completed<'a>(
     n: usize,

@@ -3,7 +3,7 @@ use crate::printing::print_line;
 use crate::printing::print_two;
 use malformed::messages::advice;
 use malformed::messages::fault_line;
-use malformed::met::met_at;
+use met_text::met::met_at;
 use triangle_text::faults::Expected;
 use triangle_text::reading::without_mark;
 

@@ -1,5 +1,2 @@
--- The laws of tables: entries one after the other, totals and widths.
-pub mod TableLines
-pub mod Totals
-pub mod Widths
+-- The room of every line.
 pub mod TableRoom

@@ -6,7 +6,7 @@ use lib.ListN.{length}
 use Rattle.figures.specs.Bytes.{bytes}
 use Rattle.figures.specs.Writing.{amount-text}
 use Rattle.printed.specs.Filling.{filled}
-use Rattle.tables.specs.Entries.{entry}
+use Rattle.printed.specs.Entries.{entry}
 use Rattle.tables.specs.declared.one_cell.CellFigure.{CellFigure}
 use Rattle.tables.specs.declared.one_cell.CellFigure.the-variants.{Payment, Adjustment, Outstanding}
 

@@ -6,7 +6,7 @@ use Rattle.figures.specs.Bytes.{bytes}
 use Rattle.figures.specs.Writing.{whole-text}
 use Rattle.triangle.specs.Ratios.{no-sums}
 use Rattle.triangle.specs.declared.ratios.Sums.{Sums}
-use Rattle.tables.specs.Entries.{set-right, entry, year-text, widest-from}
+use Rattle.printed.specs.Entries.{set-right, entry, count-text, widest-from}
 
 abbrev pub sums-title : List ℕ
 sums-title = bytes "Sums of the ratios: payment ratio P / D, adjustment ratio Q / D"
@@ -14,7 +14,7 @@ sums-title = bytes "Sums of the ratios: payment ratio P / D, adjustment ratio Q 
 unfoldable pub sums-heading : ℕ → List ℕ
 sums-heading column = bytes "development year" ++ (entry column (bytes "P") ++ (entry column (bytes "Q") ++ entry column (bytes "D")))
 
--- The width of the widest sum of n accident years' ratios, or of a heading.
+-- The width of the widest of a year's three sums, and of all years before the last; a heading has one byte.
 abbrev pub sums-width : Sums → ℕ
 sums-width sums =
     max (max (length (whole-text (sums .payments))) (length (whole-text (sums .adjustments)))) (length (whole-text (sums .exposure)))
@@ -24,7 +24,7 @@ sums-column n ratios = widest-from (λ place. sums-width (getD ratios place no-s
 
 -- From development year k to the next.
 unfoldable pub from-year : ℕ → List ℕ
-from-year k = year-text k ++ (bytes " to " ++ year-text (k + 1))
+from-year k = count-text k ++ (bytes " to " ++ count-text (k + 1))
 
 -- The row of development year k, whose sums project from that year to the next.
 unfoldable pub sums-row : List Sums → ℕ → ℕ → List ℕ

@@ -2,9 +2,9 @@
 ghost use mathlib.Core.Path.{_≡_};
 ghost use Rattle.printed.specs.Line.{LineIs};
 ghost use Rattle.tables.specs.OneCell as meaning;
-use crate::entries::amount_width;
-use crate::entries::with_amount;
 use printed::counts::larger;
+use printed::entries::amount_width;
+use printed::entries::with_amount;
 use printed::filling::filled_2;
 use printed::line::Line;
 use printed::line::line_of;

@@ -2,7 +2,8 @@
 use mathlib.Core.Bool.{Bool, not, _&&_, _||_, cond}
 use mathlib.Core.List.{List, [], _∷_}
 use Prim.Native.Nat.{ℕ}
-use lib.Dec.{eqb}
+use lib.Dec.{ltb, eqb}
+use lib.ListN.{length}
 use Rattle.text.specs.Bytes.{tab, space, double-quote, comma, semicolon}
 use Rattle.text.specs.declared.search.Sought.{Sought}
 use Rattle.text.specs.declared.search.Sought.the-variants.{Byte, Separator, NotSpace, NeitherSpaceNor, WordEnd, WordStart}
@@ -22,6 +23,10 @@ is-sought (WordStart separator) byte = not (parts-words separator byte)
 unfoldable pub before : Sought → List ℕ → List ℕ
 before sought [] = []
 before sought (byte ∷ text) = cond (is-sought sought byte) [] (byte ∷ before sought text)
+
+-- Whether a text has this byte.
+abbrev pub has-byte : ℕ → List ℕ → Bool
+has-byte byte text = ltb (length (before (Byte byte) text)) (length text)
 
 unfoldable pub from : Sought → List ℕ → List ℕ
 from sought [] = []

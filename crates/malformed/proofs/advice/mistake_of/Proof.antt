@@ -9,7 +9,8 @@ use borrow.Author.Tests.{eq-eqb, ne-eqb}
 use lib.Dec.{eqb}
 use lib.ListN.{getD}
 use Rattle.text.specs.Bytes.{number-sign, is-letter}
-use Rattle.malformed.specs.Messages.{has-byte, mistake-of}
+use Rattle.text.specs.Search.{has-byte}
+use Rattle.malformed.specs.Messages.{mistake-of}
 use Rattle.malformed.proofs.advice.mistake_of.Statement.{statement}
 use Rattle.malformed.proofs.advice.mistake_of.Tie as tie
 

@@ -6,9 +6,9 @@ use borrow.Author.Needs.{needs}
 use lib.ListN.{getD}
 use native.Mathlib.Nat.{sub-zero}
 use Rattle.triangle.specs.Ratios.{no-sums}
-use Rattle.tables.specs.Entries.{widest-from}
+use Rattle.printed.specs.Entries.{widest-from}
 use Rattle.tables.specs.SumsRows.{sums-width, sums-column}
-use Rattle.tables.proofs.Widths.{one-width-more, no-width-more}
+use Rattle.printed.proofs.Widths.{one-width-more, no-width-more}
 use Rattle.tables.proofs.sums_rows.sums_column.Statement.{statement}
 use Rattle.tables.proofs.sums_rows.sums_column.Tie as tie
 

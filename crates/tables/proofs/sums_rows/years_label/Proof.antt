@@ -9,19 +9,19 @@ use Rattle.figures.specs.Bytes.{bytes}
 use Rattle.figures.specs.Writing.{written}
 use Rattle.figures.specs.declared.writing.Written.{Written}
 use Rattle.printed.proofs.LineTexts.{both-after, line-after, number-after}
-use Rattle.tables.specs.Entries.{year-text}
+use Rattle.printed.specs.Entries.{count-text}
 use Rattle.tables.specs.SumsRows.{from-year}
-use Rattle.tables.proofs.TableLines.{year-text-length}
+use Rattle.printed.proofs.EntryTexts.{count-text-length}
 use borrow.Author.Needs.{needs}
 use Rattle.tables.proofs.sums_rows.years_label.Statement.{statement}
 use Rattle.tables.proofs.sums_rows.years_label.Tie as tie
 
-from-is : (c : tie.After-whole) → c .whole .result ≡ written (year-text (c .before .before .args .k))
+from-is : (c : tie.After-whole) → c .whole .result ≡ written (count-text (c .before .before .args .k))
 from-is c =
     let year = c .before .signed in
     rw (year .ensures) at (simp (held (year .result) (year .ok)) at (c .whole .ensures))
 
-to-is : (c : tie.After-whole2) → c .whole2 .result ≡ written (year-text (c .before .before .before .before .args .k + 1))
+to-is : (c : tie.After-whole2) → c .whole2 .result ≡ written (count-text (c .before .before .before .before .args .k + 1))
 to-is c =
     let year = c .before .signed2 in
     rw (year .ensures) at (simp (held (year .result) (year .ok)) at (c .whole2 .ensures))
@@ -38,8 +38,8 @@ spaces-left c =
       c .before .less .ensures,
       ap (λ (v : Written). v .width) (from-is from),
       ap (λ (v : Written). v .width) (to-is to),
-      length-append (year-text k) (bytes " to " ++ year-text (k + 1)),
-      length-append (bytes " to ") (year-text (k + 1)),
+      length-append (count-text k) (bytes " to " ++ count-text (k + 1)),
+      length-append (bytes " to ") (count-text (k + 1)),
     )
 
 signed-requires : tie.Need-signed-requires
@@ -94,8 +94,8 @@ returns c =
     let k = from .before .before .args .k in
     line-after (nothing .empty .ensures)
     (both-after (rw (spaces-left left) at (spaces .with-spaces .ensures))
-    (both-after (number-after {text = year-text k} (from-is from) (year-text-length k) (first .with-written .ensures))
-    (both-after (word .with-text .ensures) (number-after {text = year-text (k + 1)} (to-is to) (year-text-length (k + 1)) (c .with-written2 .ensures)))))
+    (both-after (number-after {text = count-text k} (from-is from) (count-text-length k) (first .with-written .ensures))
+    (both-after (word .with-text .ensures) (number-after {text = count-text (k + 1)} (to-is to) (count-text-length (k + 1)) (c .with-written2 .ensures)))))
 
 pub years-label-spec : {M : Type 1} → statement M
 years-label-spec =

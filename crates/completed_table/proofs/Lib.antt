@@ -1,0 +1,2 @@
+-- The room of every line.
+pub mod TableRoom

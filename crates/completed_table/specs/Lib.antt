@@ -1,0 +1,2 @@
+-- The lines of a completed triangle.
+pub mod CompletedRows

@@ -1,0 +1,2 @@
+// The completed triangle, line by line.
+pub mod completed_rows;

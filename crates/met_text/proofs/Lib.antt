@@ -1,0 +1,4 @@
+-- The laws of a text that is shown byte by byte, and of one in double quotes; the worked examples.
+pub mod ShownTexts
+pub mod QuotedTexts
+pub mod Examples

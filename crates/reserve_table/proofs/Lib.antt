@@ -1,0 +1,3 @@
+-- The laws of totals, and the room of every line.
+pub mod Totals
+pub mod TableRoom

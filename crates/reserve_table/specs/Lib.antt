@@ -1,0 +1,2 @@
+-- The lines of the table of reserves.
+pub mod ReserveRows
