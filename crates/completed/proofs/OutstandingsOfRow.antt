@@ -6,8 +6,8 @@ use native.Mathlib.Omega.{arith}
 use lib.IntN.{ℤ, _+ℤ_, _-ℤ_}
 use mir.Syntax.{w64}
 use mir.Val.{SFits}
-use Rattle.figures.specs.Exact.{exact-of}
-use Rattle.figures.proofs.Fits.{exact-within}
+use Rattle.exact_sums.specs.Exact.{exact-of}
+use Rattle.exact_sums.proofs.Fits.{exact-within}
 use Rattle.method.specs.Triangle.{Triangle, S, T, entry}
 use Rattle.method.specs.Outstandings.{R}
 use Rattle.outstandings.proofs.RowOutstandings.{less-payment-fits, next-fits}

@@ -8,8 +8,8 @@ use lib.Dec.{leb}
 use lib.IntN.{ℤ, pos, _+ℤ_, _-ℤ_}
 use mir.Syntax.{w64}
 use mir.Val.{SFits}
-use Rattle.figures.specs.declared.exact.Exact.{Exact}
-use Rattle.figures.specs.declared.exact.Exact.the-variants.{Of, TooLarge}
+use Rattle.exact_sums.specs.declared.exact.Exact.{Exact}
+use Rattle.exact_sums.specs.declared.exact.Exact.the-variants.{Of, TooLarge}
 use Rattle.method.specs.Limits.{most-accident-years}
 use Rattle.method.specs.Triangle.{Triangle, seen, cell, S, T}
 use Rattle.method.specs.Outstandings.{R}

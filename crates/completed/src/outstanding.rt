@@ -2,9 +2,9 @@
 ghost use mathlib.Core.Path.{_≡_};
 ghost use Rattle.completed.specs.Completed.{CellOfSquare, of-lists, OutstandingAt, MovedTo, number-or-0};
 use crate::places::cell_at;
-use figures::exact::Exact;
-use figures::exact::difference;
-use figures::exact::sum;
+use exact_sums::exact::Exact;
+use exact_sums::exact::difference;
+use exact_sums::exact::sum;
 use outstandings::opening_of;
 
 // The outstanding of accident year i at the end of development year k, where the row is within the limits of questions 5 and 6.

@@ -6,7 +6,7 @@ use Prim.Native.Char.{code}
 use lib.IntN.{ℤ}
 use lib.ListN.{length}
 use Rattle.figures.specs.Bytes.{bytes}
-use Rattle.figures.specs.Writing.{whole-text, amount-text}
+use Rattle.written_figures.specs.Writing.{whole-text, amount-text}
 use Rattle.method.specs.Triangle.{Triangle}
 use Rattle.method.specs.Outstandings.{R}
 use Rattle.method.specs.AnswerPlaces.{cell-figure}

@@ -11,7 +11,6 @@ ghost use Rattle.completed_table.specs.CompletedRows.{CellShown, RowShow
 use completed::shown::Shown;
 use completed::shown::amount_shown;
 use completed::shown::outstanding_shown;
-use figures::writing::amount;
 use printed::counts::larger;
 use printed::counts::signed;
 use printed::entries::amount_width;
@@ -22,6 +21,7 @@ use printed::entries::with_text_entry;
 use printed::entries::with_whole;
 use printed::line::Line;
 use printed::line::line_of;
+use written_figures::writing::amount;
 
 // The three tables of a completed triangle.
 pub enum Table {

@@ -17,10 +17,10 @@ use mir.Syntax.{w64}
 use mir.Val.{SFits}
 use Rattle.integers.proofs.RingSolver.{con, _:-_, neg}
 use Rattle.integers.proofs.LinearFacts.{≡-by, <ℤ-by, fits-by}
-use Rattle.figures.specs.Exact.{least, greatest}
+use Rattle.exact_sums.specs.Exact.{least, greatest}
 use Rattle.figures.specs.Reading.{zero-digit, nine-digit, is-digit, all-digits, value-after, whole-of, with-sign, above-all-sizes}
 use Rattle.figures.specs.declared.reading.Figure.the-variants.{Whole, TooLarge}
-use Rattle.figures.proofs.Fits.{fits-yes, above-fits, below-fits}
+use Rattle.exact_sums.proofs.Fits.{fits-yes, above-fits, below-fits}
 
 -- ---- Digits
 

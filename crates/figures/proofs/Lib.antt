@@ -1,9 +1,4 @@
--- The laws of figures: what 64 bits hold, a cell read from the left, and a text written from the right.
-pub mod Fits
+-- The laws of a cell that is read from the left; the worked examples.
 pub mod DigitsRead
 pub mod CellsRead
-pub mod Sizes
-pub mod TextsBefore
-pub mod GroupedDigits
-pub mod TextLengths
 pub mod Examples

@@ -1,6 +1,4 @@
--- What the functions of this crate answer: exact sums, figures read, figures written.
-pub mod Exact
+-- What a cell of text holds.
 pub mod Reading
-pub mod Writing
 pub mod Bytes
 pub mod Examples

@@ -5,7 +5,7 @@ use Prim.Native.Nat.{ℕ, _+_, _-_, _*_, _^_}
 use Prim.Native.Char.{code}
 use lib.Dec.{leb, eqb}
 use lib.IntN.{ℤ, pos, negℤ}
-use Rattle.figures.specs.Exact.{fits}
+use Rattle.exact_sums.specs.Exact.{fits}
 use Rattle.figures.specs.declared.reading.Figure.{Figure}
 use Rattle.figures.specs.declared.reading.Figure.the-variants.{Blank, Whole, TooLarge, NotWhole}
 

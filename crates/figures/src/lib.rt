@@ -1,4 +1,2 @@
-// Figures as text: cells read as whole numbers, numbers and amounts written, and sums that tell where they pass 64 bits.
-pub mod exact;
+// Cells of text read as whole numbers.
 pub mod reading;
-pub mod writing;

@@ -7,9 +7,9 @@ use native.Mathlib.Numerals.{add-one}
 use native.Mathlib.Omega.{arith}
 use lib.ListN.{length, take, drop}
 use Rattle.text.specs.Lines.{lines, first-of, others-of}
-use Rattle.headings.specs.Kinds.{kind-of, same-kind}
+use Rattle.line_kinds.specs.Kinds.{kind-of, same-kind}
 use Rattle.headings.specs.Places.{from-heading, number-after-lines, line-number, heading-line, HeadingFound}
-use Rattle.headings.specs.declared.kinds.LineKind.{LineKind}
+use Rattle.line_kinds.specs.declared.kinds.LineKind.{LineKind}
 use Rattle.headings.specs.declared.places.Heading.{Heading}
 use Rattle.text.proofs.LinesOfText.{no-lines, LineAt, first-of-rest}
 

@@ -11,18 +11,18 @@ use types.Run.{OneOf, miss}
 use denote.Enum.Declared.{tagOf}
 use Rattle.text.specs.Cells.{is-empty}
 use Rattle.text.specs.Lines.{lines}
-use Rattle.headings.specs.Kinds.{kind-of}
+use Rattle.line_kinds.specs.Kinds.{kind-of}
 use Rattle.headings.specs.Places.{line-number}
 use Rattle.headings.specs.Faults.{no-words, words-check, heading-check, line-check, under-after, or-later, fault-after, heading-fault}
-use Rattle.headings.specs.declared.kinds.LineKind.the-variants.{Blank, Separators, Payments, Adjustments, Weights, Openings, Cut, Cell, Row, Unknown}
-use Rattle.headings.specs.declared.kinds.LineKind.{LineKind}
+use Rattle.line_kinds.specs.declared.kinds.LineKind.the-variants.{Blank, Separators, Payments, Adjustments, Weights, Openings, Cut, Cell, Row, Unknown}
+use Rattle.line_kinds.specs.declared.kinds.LineKind.{LineKind}
 use Rattle.headings.specs.declared.faults.Checked.the-variants.{Right, Wrong}
 use Rattle.headings.specs.declared.faults.Checked.{Checked}
 use Rattle.headings.specs.declared.faults.FirstFault.the-variants.{Nothing}
 use Rattle.headings.specs.declared.faults.HeadingFault.the-variants.{HeadingOnce}
 use Rattle.headings.specs.declared.faults.HeadingFault.{HeadingFault}
 use Rattle.text.proofs.LinesOfText.{no-lines, LineAt}
-use Rattle.headings.proofs.kinds.LineKind.{the-type}
+use Rattle.line_kinds.proofs.kinds.LineKind.{the-type}
 
 pub empty-by-length : (word : List ℕ) → eqb (length word) 0 ≡ is-empty word
 empty-by-length [] = refl

@@ -6,10 +6,10 @@ use Prim.Native.Nat.{ℕ, suc, _+_, _≤_}
 use native.Mathlib.Omega.{arith}
 use lib.ListN.{length, drop}
 use Rattle.text.specs.Lines.{lines}
-use Rattle.headings.specs.Kinds.{kind-of, is-heading, same-kind}
+use Rattle.line_kinds.specs.Kinds.{kind-of, is-heading, same-kind}
 use Rattle.headings.specs.Places.{counted, rows-in}
-use Rattle.headings.specs.declared.kinds.LineKind.the-variants.{Blank, Separators, Payments, Adjustments, Weights, Openings, Cut, Cell, Row, Unknown}
-use Rattle.headings.specs.declared.kinds.LineKind.{LineKind}
+use Rattle.line_kinds.specs.declared.kinds.LineKind.the-variants.{Blank, Separators, Payments, Adjustments, Weights, Openings, Cut, Cell, Row, Unknown}
+use Rattle.line_kinds.specs.declared.kinds.LineKind.{LineKind}
 use Rattle.text.proofs.LinesOfText.{no-lines, LineAt}
 
 counted-by-tests : (kind : LineKind) (rows : ℕ) → counted kind rows ≡ cond (is-heading kind) 0 (cond (same-kind kind Row) (suc rows) rows)

@@ -9,9 +9,9 @@ use lib.Dec.{leb}
 use lib.ListN.{length, drop}
 use Rattle.text.specs.Lines.{lines}
 use Rattle.text.proofs.LinesOfText.{no-lines, LineAt}
-use Rattle.headings.specs.Kinds.{kind-of, is-heading, same-kind}
+use Rattle.line_kinds.specs.Kinds.{kind-of, is-heading, same-kind}
 use Rattle.headings.specs.Places.{left-after, row-line-after}
-use Rattle.headings.specs.declared.kinds.LineKind.the-variants.{Row}
+use Rattle.line_kinds.specs.declared.kinds.LineKind.the-variants.{Row}
 
 -- The lines from a place on, which so many lines come before, have the row of this number where the lines from the first place on have the row sought.
 module _ (text : List ℕ) (separator from number row : ℕ) where

@@ -9,10 +9,10 @@ use Rattle.figures.specs.declared.reading.Figure.{Figure}
 use Rattle.figures.specs.declared.reading.Figure as figures
 use Rattle.text.specs.Cells.{is-empty}
 use Rattle.text.specs.Words.{word, is-word}
-use Rattle.headings.specs.Kinds.{kind-of, is-heading, has-rows}
+use Rattle.line_kinds.specs.Kinds.{kind-of, is-heading, has-rows}
 use Rattle.headings.specs.Places.{line-number, says-cumulated}
-use Rattle.headings.specs.declared.kinds.LineKind.{LineKind}
-use Rattle.headings.specs.declared.kinds.LineKind.the-variants.{Blank, Separators, Payments, Adjustments, Weights, Openings, Cut, Cell, Row, Unknown}
+use Rattle.line_kinds.specs.declared.kinds.LineKind.{LineKind}
+use Rattle.line_kinds.specs.declared.kinds.LineKind.the-variants.{Blank, Separators, Payments, Adjustments, Weights, Openings, Cut, Cell, Row, Unknown}
 use Rattle.headings.specs.declared.faults.HeadingFault.{HeadingFault}
 use Rattle.headings.specs.declared.faults.HeadingFault.the-variants.{HeadingBeforeRow, FiguresInRow, KnownHeading, HeadingOnce, CumulatedOrIncremental, NothingAfterHeading, NumberAfterCut, YearsAfterCell}
 use Rattle.headings.specs.declared.faults.Checked.{Checked}

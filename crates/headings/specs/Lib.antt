@@ -1,4 +1,3 @@
--- What the functions of this crate answer: what a line of a triangle's text is, what its headings say, and their first fault.
-pub mod Kinds
+-- What the headings of a triangle's text say, where they stand, and their first fault.
 pub mod Places
 pub mod Faults

@@ -12,9 +12,9 @@ use Rattle.figures.specs.declared.reading.Figure.{Figure}
 use Rattle.figures.specs.declared.reading.Figure.the-variants.{Blank, Whole, TooLarge, NotWhole}
 use Rattle.text.specs.Lines.{lines, first-of, others-of}
 use Rattle.text.specs.Words.{word}
-use Rattle.headings.specs.Kinds.{is-either, kind-of, is-heading, same-kind}
-use Rattle.headings.specs.declared.kinds.LineKind as kinds
-use Rattle.headings.specs.declared.kinds.LineKind.{LineKind}
+use Rattle.line_kinds.specs.Kinds.{is-either, kind-of, is-heading, same-kind}
+use Rattle.line_kinds.specs.declared.kinds.LineKind as kinds
+use Rattle.line_kinds.specs.declared.kinds.LineKind.{LineKind}
 use Rattle.headings.specs.declared.places.Heading.{Heading}
 
 -- The lines from the first one on that is this heading; none where there is no such heading.

@@ -2,14 +2,14 @@
 ghost use mathlib.Core.Path.{_≡_};
 ghost use Rattle.text.specs.Lines.{lines};
 ghost use Rattle.headings.specs.Faults as meaning;
-use crate::kinds::LineKind;
-use crate::kinds::has_rows;
-use crate::kinds::is_heading;
-use crate::kinds::kind_of;
 use crate::places::find_heading;
 use crate::places::says_cumulated;
 use figures::reading::Figure;
 use figures::reading::figure_of;
+use line_kinds::kinds::LineKind;
+use line_kinds::kinds::has_rows;
+use line_kinds::kinds::is_heading;
+use line_kinds::kinds::kind_of;
 use text::lines::first_line;
 use text::lines::first_line_length;
 use text::words::is_word;

@@ -1,6 +1,6 @@
 -- The tables of examples, each by one computation of the definitions.
 use mathlib.Core.Path.{refl}
-use Rattle.figures.specs.Writing.{first-group, grouped-in, grouped}
+use Rattle.written_figures.specs.Writing.{first-group, grouped-in, grouped}
 use Rattle.text.specs.Bytes.{small, is-letter}
 use Rattle.text.specs.Search.{before}
 use Rattle.printed.specs.Filling.{filled}

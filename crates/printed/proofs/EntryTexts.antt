@@ -5,9 +5,9 @@ use Prim.Native.Nat.{ℕ, suc, _+_, _-_, _≤_, _<_}
 use native.Mathlib.Numerals.{add-one}
 use native.Mathlib.Omega.{arith}
 use lib.ListN.{length, drop, replicate, length-append}
-use Rattle.figures.specs.Writing.{space, written}
-use Rattle.figures.proofs.TextLengths.{whole-text-length}
-use Rattle.figures.specs.declared.writing.Written.{Written}
+use Rattle.written_figures.specs.Writing.{space, written}
+use Rattle.written_figures.proofs.TextLengths.{whole-text-length}
+use Rattle.written_figures.specs.declared.writing.Written.{Written}
 use Rattle.printed.specs.declared.line.Line.{Line}
 use Rattle.printed.specs.Line.{After}
 use Rattle.printed.specs.Counts.{as-number}

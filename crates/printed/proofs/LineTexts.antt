@@ -7,8 +7,8 @@ use native.Mathlib.Decide.{decLe}
 use native.Mathlib.Omega.{arith}
 use lib.ListN.{length, getD, take, drop, set, replicate, length-take, length-replicate, drop-of-length-le}
 use lib.Seq.{take-all, take-at, drop-at, take-suc-set, drop-cons}
-use Rattle.figures.specs.declared.writing.Written.{Written}
-use Rattle.figures.specs.Writing.{space, written}
+use Rattle.written_figures.specs.declared.writing.Written.{Written}
+use Rattle.written_figures.specs.Writing.{space, written}
 use Rattle.printed.specs.declared.line.Line.{Line}
 use Rattle.printed.specs.Line.{text-of, fitted, LineIs, After}
 

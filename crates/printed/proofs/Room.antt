@@ -9,7 +9,7 @@ use borrow.Author.Tests.{leb-true, lt-ltb}
 use lib.Dec.{leb, ltb, eqb}
 use lib.IntN.{ℤ, pos, negsuc, natAbs}
 use lib.ListN.{length, getD, drop, replicate, length-append, length-replicate}
-use Rattle.figures.specs.Writing.{space, digit, three-digits, six-digits, comma, point, first-group, grouped-in, grouped, whole-text, amount-text}
+use Rattle.written_figures.specs.Writing.{space, digit, three-digits, six-digits, comma, point, first-group, grouped-in, grouped, whole-text, amount-text}
 use Rattle.printed.specs.declared.line.Line.{Line}
 use Rattle.printed.specs.Line.{text-of, LineIs}
 use Rattle.printed.specs.Filling.{place, filled, places}

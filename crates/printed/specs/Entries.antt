@@ -2,7 +2,7 @@
 use mathlib.Core.List.{List, [], _++_}
 use Prim.Native.Nat.{ℕ, zero, suc, _-_, max}
 use lib.ListN.{length, replicate}
-use Rattle.figures.specs.Writing.{space, whole-text}
+use Rattle.written_figures.specs.Writing.{space, whole-text}
 use Rattle.printed.specs.Counts.{as-number}
 
 -- A text set to the right in a column.

@@ -6,7 +6,7 @@ use Prim.Native.Char.{code}
 use lib.Dec.{eqb}
 use lib.IntN.{ℤ, pos}
 use lib.ListN.{getD, drop}
-use Rattle.figures.specs.Writing.{whole-text}
+use Rattle.written_figures.specs.Writing.{whole-text}
 
 -- the byte that holds the place of a number
 abbrev pub place : ℕ

@@ -3,7 +3,7 @@ ghost use mathlib.Core.Path.{_≡_};
 ghost use mathlib.Core.List.{_++_};
 ghost use Prim.Native.Nat.{_-_};
 ghost use lib.ListN.{length, drop, replicate};
-ghost use Rattle.figures.specs.Writing.{space, whole-text, amount-text};
+ghost use Rattle.written_figures.specs.Writing.{space, whole-text, amount-text};
 ghost use Rattle.printed.specs.Line.{LineIs, After};
 ghost use Rattle.printed.specs.Entries.{entry, set-right, count-text};
 use crate::counts::less;
@@ -13,9 +13,9 @@ use crate::line::empty;
 use crate::line::with_spaces;
 use crate::line::with_text;
 use crate::line::with_written;
-use figures::writing::Written;
-use figures::writing::amount;
-use figures::writing::whole;
+use written_figures::writing::Written;
+use written_figures::writing::amount;
+use written_figures::writing::whole;
 
 // An entry, set to the right: two spaces before the column, then a mark and a figure.
 pub fn with_entry(line: Line, mark: &[u8], written: Written, column: usize) -> Line

@@ -2,11 +2,11 @@
 ghost use mathlib.Core.List.{[], _∷_};
 ghost use Prim.Native.Nat.{_-_};
 ghost use lib.ListN.{length, take, drop, replicate};
-ghost use Rattle.figures.specs.Writing.{space, whole-text};
+ghost use Rattle.written_figures.specs.Writing.{space, whole-text};
 ghost use Rattle.printed.specs.Line.{text-of, LineIs, After};
 use crate::counts::less;
-use figures::writing::Written;
-use figures::writing::whole;
+use written_figures::writing::Written;
+use written_figures::writing::whole;
 
 // Room for every line that is printed.
 pub const ROOM: usize = 512;

@@ -6,7 +6,7 @@ use lib.Dec.{eqb}
 use lib.IntN.{ℤ, pos, negℤ, _+ℤ_, _-ℤ_}
 use lib.Signed.{ltZ}
 use Rattle.figures.specs.Bytes.{bytes}
-use Rattle.figures.specs.Exact.{exact-of}
+use Rattle.exact_sums.specs.Exact.{exact-of}
 use Rattle.method.specs.Limits.{greatest-amount}
 use Rattle.method.specs.Tests.{from-to}
 use Rattle.completed.specs.Completed.{number-or-0}

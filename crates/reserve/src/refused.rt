@@ -1,9 +1,9 @@
 // What is printed of a refusal by a question.
 use crate::printing::print_line;
 use crate::printing::print_two;
-use headings::kinds::LineKind;
 use headings::places::find_heading;
 use headings::places::row_line;
+use line_kinds::kinds::LineKind;
 use refusals::counts::count_of;
 use refusals::found::Found;
 use refusals::found::Lent;

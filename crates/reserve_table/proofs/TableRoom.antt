@@ -5,9 +5,9 @@ use native.Mathlib.Omega.{arith}
 use lib.IntN.{ℤ, pos}
 use lib.ListN.{length, getD, length-append}
 use Rattle.figures.specs.Bytes.{bytes}
-use Rattle.figures.specs.Writing.{whole-text, amount-text}
-use Rattle.figures.specs.declared.exact.Exact.{Exact}
-use Rattle.figures.specs.declared.exact.Exact.the-variants.{Of, TooLarge}
+use Rattle.written_figures.specs.Writing.{whole-text, amount-text}
+use Rattle.exact_sums.specs.declared.exact.Exact.{Exact}
+use Rattle.exact_sums.specs.declared.exact.Exact.the-variants.{Of, TooLarge}
 use Rattle.method.specs.AnswerPlaces.{year-figure}
 use Rattle.printed.specs.Entries.{set-right, entry, count-text}
 use Rattle.printed.proofs.Room.{number-length, amount-length, set-right-length, entry-length, count-length}

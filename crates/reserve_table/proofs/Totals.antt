@@ -4,9 +4,9 @@ use Prim.Native.Nat.{ℕ, suc, _+_, _-_, _≤_, _<_}
 use native.Mathlib.Numerals.{add-one}
 use native.Mathlib.Omega.{arith}
 use lib.IntN.{ℤ, _+ℤ_}
-use Rattle.figures.specs.Exact.{exact-of}
-use Rattle.figures.specs.declared.exact.Exact.{Exact}
-use Rattle.figures.specs.declared.exact.Exact.the-variants.{Of, TooLarge}
+use Rattle.exact_sums.specs.Exact.{exact-of}
+use Rattle.exact_sums.specs.declared.exact.Exact.{Exact}
+use Rattle.exact_sums.specs.declared.exact.Exact.the-variants.{Of, TooLarge}
 use Rattle.reserve_table.specs.ReserveRows.{then-on, total-from}
 
 -- the numbers from a place on, up to an end

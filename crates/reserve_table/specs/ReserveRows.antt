@@ -4,10 +4,10 @@ use Prim.Native.Nat.{ℕ, zero, suc, _-_, max}
 use lib.IntN.{ℤ, pos, _+ℤ_}
 use lib.ListN.{length, getD}
 use Rattle.figures.specs.Bytes.{bytes}
-use Rattle.figures.specs.Writing.{whole-text, amount-text}
-use Rattle.figures.specs.Exact.{exact-of}
-use Rattle.figures.specs.declared.exact.Exact.{Exact}
-use Rattle.figures.specs.declared.exact.Exact.the-variants.{Of, TooLarge}
+use Rattle.written_figures.specs.Writing.{whole-text, amount-text}
+use Rattle.exact_sums.specs.Exact.{exact-of}
+use Rattle.exact_sums.specs.declared.exact.Exact.{Exact}
+use Rattle.exact_sums.specs.declared.exact.Exact.the-variants.{Of, TooLarge}
 use Rattle.method.specs.AnswerPlaces.{year-figure}
 use Rattle.printed.specs.Entries.{set-right, entry, count-text, widest-from}
 

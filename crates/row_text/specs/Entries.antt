@@ -1,9 +1,9 @@
 -- What a cell of a row holds: an amount, or what was expected in it.
 use mathlib.Core.Bool.{Bool, true, false}
 use lib.IntN.{ℤ, pos, _-ℤ_}
-use Rattle.figures.specs.Exact.{exact-of}
-use Rattle.figures.specs.declared.exact.Exact.{Exact}
-use Rattle.figures.specs.declared.exact.Exact as exact
+use Rattle.exact_sums.specs.Exact.{exact-of}
+use Rattle.exact_sums.specs.declared.exact.Exact.{Exact}
+use Rattle.exact_sums.specs.declared.exact.Exact as exact
 use Rattle.figures.specs.declared.reading.Figure.{Figure}
 use Rattle.figures.specs.declared.reading.Figure.the-variants.{Blank, Whole, TooLarge, NotWhole}
 use Rattle.row_text.specs.declared.entries.CellFault.the-variants.{NumberForBlank, WholeNumber, SixtyFourBits, DifferenceOfSixtyFourBits}

@@ -2,8 +2,8 @@
 ghost use mathlib.Core.Path.{_≡_};
 ghost use Rattle.figures.specs.Reading.{figure-of};
 ghost use Rattle.row_text.specs.Entries as meaning;
-use figures::exact::Exact;
-use figures::exact::difference;
+use exact_sums::exact::Exact;
+use exact_sums::exact::difference;
 use figures::reading::Figure;
 use figures::reading::figure_of;
 

@@ -9,8 +9,8 @@ use crate::printing::print_number;
 use crate::printing::print_verdict;
 use crate::printing::print_whether;
 use calls::reserve::reserve;
-use figures::exact::Exact;
-use figures::exact::difference;
+use exact_sums::exact::Exact;
+use exact_sums::exact::difference;
 use verdicts::limits::from_to;
 
 pub(crate) fn compare() {

@@ -1,9 +1,9 @@
 // What is printed: texts, numbers, amounts and verdicts.
-use figures::writing::Written;
-use figures::writing::amount;
-use figures::writing::whole;
 use libc::STDOUT_FILENO;
 use verdicts::verdict::Verdict;
+use written_figures::writing::Written;
+use written_figures::writing::amount;
+use written_figures::writing::whole;
 
 pub(crate) fn print(text: &[u8]) {
     io::write_all(STDOUT_FILENO, text);

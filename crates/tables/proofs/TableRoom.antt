@@ -5,7 +5,7 @@ use native.Mathlib.Omega.{arith}
 use lib.IntN.{ℤ}
 use lib.ListN.{length, getD, length-append}
 use Rattle.figures.specs.Bytes.{bytes}
-use Rattle.figures.specs.Writing.{whole-text, amount-text}
+use Rattle.written_figures.specs.Writing.{whole-text, amount-text}
 use Rattle.triangle.specs.Ratios.{no-sums}
 use Rattle.triangle.specs.declared.ratios.Sums.{Sums}
 use Rattle.printed.specs.Entries.{set-right, entry, count-text}

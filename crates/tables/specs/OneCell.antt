@@ -4,7 +4,7 @@ use Prim.Native.Nat.{ℕ, max}
 use lib.IntN.{ℤ}
 use lib.ListN.{length}
 use Rattle.figures.specs.Bytes.{bytes}
-use Rattle.figures.specs.Writing.{amount-text}
+use Rattle.written_figures.specs.Writing.{amount-text}
 use Rattle.printed.specs.Filling.{filled}
 use Rattle.printed.specs.Entries.{entry}
 use Rattle.tables.specs.declared.one_cell.CellFigure.{CellFigure}

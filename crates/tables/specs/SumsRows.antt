@@ -3,7 +3,7 @@ use mathlib.Core.List.{List, _++_}
 use Prim.Native.Nat.{ℕ, _+_, _-_, max}
 use lib.ListN.{length, getD}
 use Rattle.figures.specs.Bytes.{bytes}
-use Rattle.figures.specs.Writing.{whole-text}
+use Rattle.written_figures.specs.Writing.{whole-text}
 use Rattle.triangle.specs.Ratios.{no-sums}
 use Rattle.triangle.specs.declared.ratios.Sums.{Sums}
 use Rattle.printed.specs.Entries.{set-right, entry, count-text, widest-from}

@@ -5,7 +5,6 @@ ghost use Rattle.method.specs.Limits.{most-accident-years};
 ghost use Rattle.printed.specs.Line.{LineIs};
 ghost use Rattle.printed.specs.Entries.{set-right};
 ghost use Rattle.tables.specs.SumsRows as meaning;
-use figures::writing::whole;
 use printed::counts::larger;
 use printed::counts::less;
 use printed::counts::signed;
@@ -20,6 +19,7 @@ use printed::line::with_text;
 use printed::line::with_written;
 use triangle::ratios::Sums;
 use verdicts::limits::DEVELOPMENT_YEARS;
+use written_figures::writing::whole;
 
 pub fn sums_title() -> Line
     ensures { λ r. ⌜ LineIs meaning.sums-title r ⌝ }

@@ -9,7 +9,7 @@ use lib.IntN.{ℤ}
 use lib.ListN.{length, take, drop, length-drop}
 use lib.Seq.{length-take-le, take-add}
 use Rattle.text.specs.Lines.{lines}
-use Rattle.headings.specs.Kinds.{kind-of, is-heading}
+use Rattle.line_kinds.specs.Kinds.{kind-of, is-heading}
 use Rattle.triangle_text.specs.Blocks.{Block, numbers, faulty, with-numbers, then-rows, line-in, rows-after, is-row, block-from, Room, LinesInput, fault-of, BlockReadAs, LineReadAs}
 use Rattle.triangle_text.specs.declared.faults.Expected.{Expected}
 use Rattle.triangle_text.specs.declared.faults.Fault.{Fault}

@@ -10,8 +10,8 @@ use lib.IntN.{ℤ}
 use lib.ListN.{length, take, drop, length-take}
 use Rattle.text.specs.Lines.{lines}
 use Rattle.headings.specs.Places.{line-number, is-cumulated, HeadingFound}
-use Rattle.headings.specs.declared.kinds.LineKind.{LineKind}
-use Rattle.headings.specs.declared.kinds.LineKind as kinds
+use Rattle.line_kinds.specs.declared.kinds.LineKind.{LineKind}
+use Rattle.line_kinds.specs.declared.kinds.LineKind as kinds
 use Rattle.headings.specs.declared.places.Heading.{Heading}
 use Rattle.triangle_text.specs.Blocks.{numbers, block-from, default-weights, BlockReadAs}
 use Rattle.triangle_text.specs.Reading.{block-under, triangle-under, weights-under}

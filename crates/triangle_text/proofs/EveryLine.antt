@@ -9,11 +9,11 @@ use lib.Dec.{eqb, leb}
 use lib.ListN.{length, length-append}
 use Rattle.text.specs.Lines.{lines, others-of}
 use Rattle.text.specs.Cells.{separator-of}
-use Rattle.headings.specs.Kinds.{kind-of, is-heading, has-rows, same-kind}
+use Rattle.line_kinds.specs.Kinds.{kind-of, is-heading, has-rows, same-kind}
 use Rattle.headings.specs.Places.{from-heading, number-after-lines, line-number, left-after, row-line-after, row-line}
 use Rattle.headings.specs.Faults.{check, line-check, under-after, or-later, fault-after, heading-fault}
-use Rattle.headings.specs.declared.kinds.LineKind.{LineKind}
-use Rattle.headings.specs.declared.kinds.LineKind.the-variants.{Blank, Separators, Payments, Adjustments, Weights, Openings, Cut, Cell, Row, Unknown}
+use Rattle.line_kinds.specs.declared.kinds.LineKind.{LineKind}
+use Rattle.line_kinds.specs.declared.kinds.LineKind.the-variants.{Blank, Separators, Payments, Adjustments, Weights, Openings, Cut, Cell, Row, Unknown}
 use Rattle.headings.specs.declared.faults.Checked.{Checked}
 use Rattle.headings.specs.declared.faults.Checked.the-variants.{Right, Wrong}
 use Rattle.headings.specs.declared.faults.FirstFault.{FirstFault}

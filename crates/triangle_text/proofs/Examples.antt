@@ -1,13 +1,13 @@
 -- The table of examples, by one computation of the definitions.
 use mathlib.Core.Path.{refl}
-use Rattle.figures.specs.Exact.{fits, exact-of}
+use Rattle.exact_sums.specs.Exact.{fits, exact-of}
 use Rattle.figures.specs.Reading.{all-digits, value-after, whole-of, number-of, figure-of}
 use Rattle.text.specs.Bytes.{small, is-letter}
 use Rattle.text.specs.Search.{before, from}
 use Rattle.text.specs.Lines.{whole-lines, before-comment, lines}
 use Rattle.text.specs.Cells.{separator-in, without-last-spaces, trimmed}
 use Rattle.text.specs.Words.{word, is-word}
-use Rattle.headings.specs.Kinds.{is-either, heading-of, begins-heading, kind-of}
+use Rattle.line_kinds.specs.Kinds.{is-either, heading-of, begins-heading, kind-of}
 use Rattle.headings.specs.Places.{from-heading, number-after-lines, rows-in, number-after, is-cumulated}
 use Rattle.headings.specs.Faults.{is-number, is-no-word, says-how, amount-words, cut-words, cell-words, no-words, fault-after}
 use Rattle.row_text.specs.Rows.{occurrences, numbers-from, openings-from}

@@ -7,9 +7,9 @@ use lib.Dec.{ltb}
 use lib.IntN.{ℤ, pos}
 use lib.ListN.{length, take}
 use Rattle.text.specs.Bytes.{longest-text}
-use Rattle.headings.specs.Kinds.{kind-of, is-heading, same-kind}
-use Rattle.headings.specs.declared.kinds.LineKind.{LineKind}
-use Rattle.headings.specs.declared.kinds.LineKind.the-variants.{Row}
+use Rattle.line_kinds.specs.Kinds.{kind-of, is-heading, same-kind}
+use Rattle.line_kinds.specs.declared.kinds.LineKind.{LineKind}
+use Rattle.line_kinds.specs.declared.kinds.LineKind.the-variants.{Row}
 use Rattle.row_text.specs.Rows.{RowNumbers, row-numbers, openings-numbers}
 use Rattle.row_text.specs.Rows as row
 use Rattle.row_text.specs.declared.rows.RowRead.{RowRead}

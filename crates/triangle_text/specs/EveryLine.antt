@@ -6,11 +6,11 @@ use mathlib.Core.List.{List, [], _∷_}
 use Prim.Native.Nat.{ℕ, suc, _≤_}
 use Rattle.text.specs.Lines.{lines}
 use Rattle.text.specs.Cells.{separator-of}
-use Rattle.headings.specs.Kinds.{kind-of, has-rows}
+use Rattle.line_kinds.specs.Kinds.{kind-of, has-rows}
 use Rattle.headings.specs.Places.{line-number, row-line}
 use Rattle.headings.specs.Faults.{under-after}
-use Rattle.headings.specs.declared.kinds.LineKind.{LineKind}
-use Rattle.headings.specs.declared.kinds.LineKind.the-variants.{Blank, Separators, Payments, Adjustments, Weights, Openings, Cut, Cell, Row, Unknown}
+use Rattle.line_kinds.specs.declared.kinds.LineKind.{LineKind}
+use Rattle.line_kinds.specs.declared.kinds.LineKind.the-variants.{Blank, Separators, Payments, Adjustments, Weights, Openings, Cut, Cell, Row, Unknown}
 use Rattle.triangle_text.specs.declared.reading.Asked.{Asked}
 use Rattle.triangle_text.specs.Reading.{Lists, triangle, without-mark, reading}
 

@@ -10,8 +10,8 @@ use Rattle.text.specs.Lines.{lines}
 use Rattle.text.specs.Cells.{separator-of}
 use Rattle.headings.specs.Places.{line-number, lines-under, rows-in, number-after, is-cumulated}
 use Rattle.headings.specs.Faults.{heading-fault}
-use Rattle.headings.specs.declared.kinds.LineKind.{LineKind}
-use Rattle.headings.specs.declared.kinds.LineKind.the-variants.{Payments, Adjustments, Weights, Openings, Cut, Cell}
+use Rattle.line_kinds.specs.declared.kinds.LineKind.{LineKind}
+use Rattle.line_kinds.specs.declared.kinds.LineKind.the-variants.{Payments, Adjustments, Weights, Openings, Cut, Cell}
 use Rattle.headings.specs.declared.faults.FirstFault.{FirstFault}
 use Rattle.headings.specs.declared.faults.FirstFault as heading
 use Rattle.method.specs.Limits.{most-accident-years}

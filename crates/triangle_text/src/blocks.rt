@@ -8,10 +8,10 @@ ghost use Rattle.triangle_text.specs.Blocks.{row-in, line-in, block-from
 ghost use Rattle.triangle_text.specs.Blocks as meaning;
 use crate::faults::Expected;
 use crate::faults::Fault;
-use headings::kinds::LineKind;
-use headings::kinds::is_heading;
-use headings::kinds::kind_of;
-use headings::kinds::same_kind;
+use line_kinds::kinds::LineKind;
+use line_kinds::kinds::is_heading;
+use line_kinds::kinds::kind_of;
+use line_kinds::kinds::same_kind;
 use row_text::openings::read_openings_row;
 use row_text::rows::RowRead;
 use row_text::rows::read_row;

@@ -5,7 +5,7 @@ use lib.IntN.{_-ℤ_}
 use mir.Syntax.{w64}
 use mir.Facts.{toZ-ofZ}
 use Rattle.integers.proofs.MachineArithmetic.{held}
-use Rattle.figures.specs.Exact.{exact-of}
+use Rattle.exact_sums.specs.Exact.{exact-of}
 use Rattle.completed.specs.Completed.{number-or-0}
 use Rattle.completed.proofs.OutstandingsOfRow.{moved-exactly}
 use Rattle.completed.proofs.outstanding.moved.Statement.{statement}

@@ -6,8 +6,8 @@ use lib.ListN.{length}
 use mir.Syntax.{w64}
 use mir.Val.{SFits}
 use mir.Facts.{toZ-ofZ}
-use Rattle.figures.specs.Writing.{amount-text}
-use Rattle.figures.proofs.TextLengths.{amount-text-length}
+use Rattle.written_figures.specs.Writing.{amount-text}
+use Rattle.written_figures.proofs.TextLengths.{amount-text-length}
 use borrow.Author.Needs.{needs}
 use Rattle.completed_table.proofs.completed_rows.shown_width.Statement.{statement}
 use Rattle.completed_table.proofs.completed_rows.shown_width.Tie as tie

@@ -4,8 +4,8 @@ use Prim.Native.Char.{code}
 use mir.Syntax.{w64}
 use mir.Val.{SFits}
 use mir.Facts.{toZ-ofZ}
-use Rattle.figures.specs.Writing.{amount-text}
-use Rattle.figures.proofs.TextLengths.{amount-text-length}
+use Rattle.written_figures.specs.Writing.{amount-text}
+use Rattle.written_figures.proofs.TextLengths.{amount-text-length}
 use Rattle.printed.proofs.EntryTexts.{figure-entry}
 use borrow.Author.Needs.{needs}
 use Rattle.completed_table.proofs.completed_rows.with_shown.Statement.{statement}

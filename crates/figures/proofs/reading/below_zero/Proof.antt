@@ -9,7 +9,7 @@ use mir.Val.{toZ}
 use mir.Facts.{toZ-pos, toZ-ofZ}
 use Rattle.integers.proofs.RingSolver.{con, neg}
 use Rattle.integers.proofs.LinearFacts.{<ℤ-by, fits-by}
-use Rattle.figures.specs.Exact.{least}
+use Rattle.exact_sums.specs.Exact.{least}
 use Rattle.figures.specs.Reading.{whole-of}
 use Rattle.figures.proofs.DigitsRead.{whole-within, whole-below, opposite-fits, one-below-fits, one-below}
 use Rattle.figures.proofs.reading.below_zero.Statement.{statement}

@@ -6,7 +6,7 @@ use mir.Syntax.{w64}
 use mir.Facts.{toZ-pos}
 use Rattle.integers.proofs.RingSolver.{con}
 use Rattle.integers.proofs.LinearFacts.{<ℤ-by, fits-by}
-use Rattle.figures.specs.Exact.{greatest}
+use Rattle.exact_sums.specs.Exact.{greatest}
 use Rattle.figures.proofs.DigitsRead.{whole-within, whole-above}
 use Rattle.figures.proofs.reading.from_zero.Statement.{statement}
 use Rattle.figures.proofs.reading.from_zero.Tie as tie

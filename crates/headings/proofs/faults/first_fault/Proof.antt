@@ -6,7 +6,7 @@ use native.Mathlib.Omega.{arith}
 use borrow.Author.Needs.{needs}
 use lib.ListN.{length}
 use Rattle.text.specs.Lines.{lines}
-use Rattle.headings.specs.Kinds.{kind-of}
+use Rattle.line_kinds.specs.Kinds.{kind-of}
 use Rattle.headings.specs.Faults.{line-check, under-after}
 use Rattle.headings.proofs.LineChecks.{CheckedTo, checks-begin, fault-here, checks-go-on, no-fault}
 use Rattle.text.proofs.LinesOfText.{LineAt, line-and-others, line-read}

@@ -6,8 +6,8 @@ use Prim.Native.Nat.{ℕ, _+_, _-_, _<_}
 use native.Mathlib.Omega.{arith}
 use borrow.Author.Needs.{needs}
 use lib.ListN.{length}
-use Rattle.headings.specs.Kinds.{kind-of, is-heading, same-kind}
-use Rattle.headings.specs.declared.kinds.LineKind.the-variants.{Row}
+use Rattle.line_kinds.specs.Kinds.{kind-of, is-heading, same-kind}
+use Rattle.line_kinds.specs.declared.kinds.LineKind.the-variants.{Row}
 use Rattle.text.proofs.LinesOfText.{LineAt, line-and-others, line-read}
 use Rattle.headings.proofs.RowCounts.{CountedTo, count-begins, count-row, count-other, all-counted, no-rows-from-heading, no-rows-at-end}
 use Rattle.headings.proofs.places.count_rows.Statement.{statement}

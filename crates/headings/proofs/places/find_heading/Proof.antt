@@ -5,7 +5,7 @@ use Prim.Native.Nat.{ℕ, _+_, _-_}
 use native.Mathlib.Omega.{arith}
 use borrow.Author.Needs.{needs}
 use lib.ListN.{length}
-use Rattle.headings.specs.Kinds.{kind-of, same-kind}
+use Rattle.line_kinds.specs.Kinds.{kind-of, same-kind}
 use Rattle.text.proofs.LinesOfText.{LineAt, line-read}
 use Rattle.headings.proofs.HeadingSearch.{SearchedTo, search-begins, search-goes-on, heading-found, heading-not-found}
 use Rattle.headings.proofs.places.find_heading.Statement.{statement}

@@ -9,9 +9,9 @@ use lib.Dec.{leb}
 use lib.ListN.{length, drop}
 use Rattle.text.specs.Lines.{lines, others-of}
 use Rattle.text.proofs.LinesOfText.{LineAt, line-and-others, line-read}
-use Rattle.headings.specs.Kinds.{kind-of, is-heading, same-kind}
+use Rattle.line_kinds.specs.Kinds.{kind-of, is-heading, same-kind}
 use Rattle.headings.specs.Places.{left-after}
-use Rattle.headings.specs.declared.kinds.LineKind.the-variants.{Row}
+use Rattle.line_kinds.specs.declared.kinds.LineKind.the-variants.{Row}
 use Rattle.headings.proofs.RowLines.{RowSoughtTo, row-search-begins, heading-ends-search, row-sought-here, row-search-goes-on, no-row-left}
 use Rattle.headings.proofs.places.row_line_from.Statement.{statement}
 use Rattle.headings.proofs.places.row_line_from.Tie as tie

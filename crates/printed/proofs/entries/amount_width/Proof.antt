@@ -2,7 +2,7 @@
 use mathlib.Core.Path.{ap}
 use mir.Syntax.{w64}
 use mir.Facts.{toZ-ofZ}
-use Rattle.figures.specs.declared.writing.Written.{Written}
+use Rattle.written_figures.specs.declared.writing.Written.{Written}
 use borrow.Author.Needs.{needs}
 use Rattle.printed.proofs.entries.amount_width.Statement.{statement}
 use Rattle.printed.proofs.entries.amount_width.Tie as tie

@@ -3,8 +3,8 @@ use borrow.Author.Needs.{needs}
 use mir.Syntax.{w64}
 use mir.Val.{SFits}
 use mir.Facts.{toZ-ofZ}
-use Rattle.figures.specs.Writing.{whole-text}
-use Rattle.figures.proofs.TextLengths.{whole-text-length}
+use Rattle.written_figures.specs.Writing.{whole-text}
+use Rattle.written_figures.proofs.TextLengths.{whole-text-length}
 use Rattle.printed.proofs.LineTexts.{line-after}
 use Rattle.printed.proofs.EntryTexts.{figure-set-right}
 use Rattle.printed.proofs.entries.label.Statement.{statement}

@@ -3,8 +3,8 @@ use mathlib.Core.List.{[]}
 use borrow.Author.Needs.{needs}
 use mir.Syntax.{w64}
 use mir.Facts.{toZ-ofZ}
-use Rattle.figures.specs.Writing.{amount-text}
-use Rattle.figures.proofs.TextLengths.{amount-text-length}
+use Rattle.written_figures.specs.Writing.{amount-text}
+use Rattle.written_figures.proofs.TextLengths.{amount-text-length}
 use Rattle.printed.proofs.EntryTexts.{figure-entry}
 use Rattle.printed.proofs.entries.with_amount.Statement.{statement}
 use Rattle.printed.proofs.entries.with_amount.Tie as tie

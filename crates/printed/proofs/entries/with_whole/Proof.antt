@@ -3,8 +3,8 @@ use mathlib.Core.List.{[]}
 use borrow.Author.Needs.{needs}
 use mir.Syntax.{w64}
 use mir.Facts.{toZ-ofZ}
-use Rattle.figures.specs.Writing.{whole-text}
-use Rattle.figures.proofs.TextLengths.{whole-text-length}
+use Rattle.written_figures.specs.Writing.{whole-text}
+use Rattle.written_figures.proofs.TextLengths.{whole-text-length}
 use Rattle.printed.proofs.EntryTexts.{figure-entry}
 use Rattle.printed.proofs.entries.with_whole.Statement.{statement}
 use Rattle.printed.proofs.entries.with_whole.Tie as tie

@@ -2,7 +2,7 @@
 use borrow.Author.Needs.{needs}
 use mir.Syntax.{w64}
 use mir.Facts.{toZ-ofZ}
-use Rattle.figures.proofs.TextLengths.{whole-text-length}
+use Rattle.written_figures.proofs.TextLengths.{whole-text-length}
 use Rattle.printed.proofs.LineTexts.{number-after}
 use Rattle.printed.proofs.line.with_number.Statement.{statement}
 use Rattle.printed.proofs.line.with_number.Tie as tie

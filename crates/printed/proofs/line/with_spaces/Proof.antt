@@ -3,7 +3,7 @@ use borrow.Author.Needs.{needs}
 use native.Mathlib.Omega.{arith}
 use mathlib.Core.Path.{_≡_, sym, subst}
 use lib.ListN.{length, replicate}
-use Rattle.figures.specs.Writing.{space}
+use Rattle.written_figures.specs.Writing.{space}
 use Rattle.printed.specs.declared.line.Line.{Line}
 use Rattle.printed.specs.Line.{After}
 use Rattle.printed.proofs.LineTexts.{nothing-after, one-space-more}

@@ -9,7 +9,7 @@ use lib.ListN.{getD}
 use mir.Syntax.{w64}
 use mir.Val.{toZ}
 use Rattle.integers.proofs.MachineArithmetic.{held}
-use Rattle.figures.specs.Exact.{exact-of}
+use Rattle.exact_sums.specs.Exact.{exact-of}
 use Rattle.reserve_table.specs.ReserveRows.{total-from, outstandings-total}
 use Rattle.reserve_table.proofs.Totals.{number-added, too-large, all-added}
 use Rattle.reserve_table.proofs.reserve_rows.outstandings_total.Statement.{statement}

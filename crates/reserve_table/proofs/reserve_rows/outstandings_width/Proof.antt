@@ -7,7 +7,7 @@ use native.Mathlib.Nat.{sub-zero}
 use lib.IntN.{pos}
 use lib.ListN.{length, getD}
 use Rattle.integers.proofs.MachineArithmetic.{held}
-use Rattle.figures.specs.Writing.{whole-text}
+use Rattle.written_figures.specs.Writing.{whole-text}
 use Rattle.printed.specs.Entries.{widest-from}
 use Rattle.reserve_table.specs.ReserveRows.{total-text, outstandings-width}
 use Rattle.printed.proofs.Widths.{one-width-more, no-width-more}

@@ -7,7 +7,7 @@ use lib.IntN.{ℤ, pos, _+ℤ_}
 use mir.Syntax.{w64}
 use mir.Val.{toZ}
 use Rattle.integers.proofs.MachineArithmetic.{held}
-use Rattle.figures.specs.Exact.{exact-of}
+use Rattle.exact_sums.specs.Exact.{exact-of}
 use Rattle.method.specs.AnswerPlaces.{year-figure}
 use Rattle.reserve_table.specs.ReserveRows.{total-from, reserves-total}
 use Rattle.reserve_table.proofs.Totals.{number-added, too-large, all-added}

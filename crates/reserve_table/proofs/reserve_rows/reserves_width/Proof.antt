@@ -5,7 +5,7 @@ use native.Mathlib.Omega.{arith}
 use borrow.Author.Needs.{needs}
 use lib.ListN.{length}
 use Rattle.integers.proofs.MachineArithmetic.{held}
-use Rattle.figures.specs.Writing.{amount-text}
+use Rattle.written_figures.specs.Writing.{amount-text}
 use Rattle.method.specs.AnswerPlaces.{year-figure}
 use Rattle.printed.specs.Entries.{widest-from}
 use Rattle.reserve_table.specs.ReserveRows.{total-text, reserves-width}

@@ -6,8 +6,8 @@ use native.Mathlib.Omega.{arith}
 use lib.ListN.{length, length-append}
 use Rattle.integers.proofs.MachineArithmetic.{held}
 use Rattle.figures.specs.Bytes.{bytes}
-use Rattle.figures.specs.Writing.{written}
-use Rattle.figures.specs.declared.writing.Written.{Written}
+use Rattle.written_figures.specs.Writing.{written}
+use Rattle.written_figures.specs.declared.writing.Written.{Written}
 use Rattle.printed.proofs.LineTexts.{both-after, line-after, number-after}
 use Rattle.printed.specs.Entries.{count-text}
 use Rattle.tables.specs.SumsRows.{from-year}

@@ -11,7 +11,7 @@ use lib.IntN.{ℤ}
 use lib.ListN.{length, take, drop, length-drop}
 use lib.Seq.{length-take-le, take-all}
 use Rattle.text.proofs.FirstLines.{first-line-short}
-use Rattle.headings.specs.Kinds.{kind-of, is-heading}
+use Rattle.line_kinds.specs.Kinds.{kind-of, is-heading}
 use Rattle.text.proofs.LinesOfText.{LineAt, first-of-rest, line-and-others, no-lines}
 use Rattle.text.proofs.LinesOfText as next
 use Rattle.triangle_text.specs.Blocks.{line-in, is-row, rows-after, LineReadAs}

@@ -8,7 +8,7 @@ use mir.Val.{SFits, toZ, ofZ}
 use mir.Facts.{toZ-pos, toZ-ofZ}
 use Rattle.text.specs.Lines.{lines}
 use Rattle.headings.specs.Places.{rows-in, lines-under, number-after}
-use Rattle.headings.specs.declared.kinds.LineKind.the-variants.{Payments, Cut, Cell}
+use Rattle.line_kinds.specs.declared.kinds.LineKind.the-variants.{Payments, Cut, Cell}
 use Rattle.triangle_text.specs.Reading.{asked-in}
 use Rattle.triangle_text.proofs.reading.asked_in.Statement.{statement}
 use Rattle.triangle_text.proofs.reading.asked_in.Tie as tie

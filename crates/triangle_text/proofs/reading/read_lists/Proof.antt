@@ -9,7 +9,7 @@ use mir.Syntax.{w64}
 use mir.Val.{SFits}
 use mir.Facts.{toZ-ofZ}
 use Rattle.text.specs.Lines.{lines}
-use Rattle.headings.specs.declared.kinds.LineKind.the-variants.{Payments, Adjustments}
+use Rattle.line_kinds.specs.declared.kinds.LineKind.the-variants.{Payments, Adjustments}
 use Rattle.method.specs.Limits.{most-accident-years}
 use Rattle.method.specs.Triangle.{amounts-length, weights-length}
 use Rattle.method.proofs.QuestionFacts.{YearsInRange, CutInRange}

@@ -1,0 +1,3 @@
+-- What 64 bits hold.
+pub mod Exact
+pub mod Examples

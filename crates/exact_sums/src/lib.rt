@@ -1,0 +1,2 @@
+// Sums and differences that tell where they pass 64 bits.
+pub mod exact;

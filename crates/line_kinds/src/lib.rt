@@ -1,0 +1,2 @@
+// What each line of a triangle's text is.
+pub mod kinds;

@@ -1,0 +1,3 @@
+-- Numbers and amounts as text.
+pub mod Writing
+pub mod Examples

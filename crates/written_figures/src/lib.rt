@@ -1,0 +1,2 @@
+// Numbers and amounts as text.
+pub mod writing;
