@@ -9,7 +9,7 @@ use lib.Dec.{eqb}
 use lib.ListN.{length, drop}
 use types.Run.{OneOf, miss}
 use denote.Enum.Declared.{tagOf}
-use Rattle.text.specs.Cells.{is-empty}
+use Rattle.line_parts.specs.Cells.{is-empty}
 use Rattle.text.specs.Lines.{lines}
 use Rattle.line_kinds.specs.Kinds.{kind-of}
 use Rattle.headings.specs.Places.{line-number}

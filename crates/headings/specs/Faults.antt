@@ -7,8 +7,8 @@ use Rattle.figures.specs.Bytes.{bytes}
 use Rattle.figures.specs.Reading.{figure-of}
 use Rattle.figures.specs.declared.reading.Figure.{Figure}
 use Rattle.figures.specs.declared.reading.Figure as figures
-use Rattle.text.specs.Cells.{is-empty}
-use Rattle.text.specs.Words.{word, is-word}
+use Rattle.line_parts.specs.Cells.{is-empty}
+use Rattle.line_parts.specs.Words.{word, is-word}
 use Rattle.line_kinds.specs.Kinds.{kind-of, is-heading, has-rows}
 use Rattle.headings.specs.Places.{line-number, says-cumulated}
 use Rattle.line_kinds.specs.declared.kinds.LineKind.{LineKind}

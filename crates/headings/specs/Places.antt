@@ -11,7 +11,7 @@ use Rattle.figures.specs.Reading.{figure-of}
 use Rattle.figures.specs.declared.reading.Figure.{Figure}
 use Rattle.figures.specs.declared.reading.Figure.the-variants.{Blank, Whole, TooLarge, NotWhole}
 use Rattle.text.specs.Lines.{lines, first-of, others-of}
-use Rattle.text.specs.Words.{word}
+use Rattle.line_parts.specs.Words.{word}
 use Rattle.line_kinds.specs.Kinds.{is-either, kind-of, is-heading, same-kind}
 use Rattle.line_kinds.specs.declared.kinds.LineKind as kinds
 use Rattle.line_kinds.specs.declared.kinds.LineKind.{LineKind}

@@ -10,10 +10,10 @@ use line_kinds::kinds::LineKind;
 use line_kinds::kinds::has_rows;
 use line_kinds::kinds::is_heading;
 use line_kinds::kinds::kind_of;
+use line_parts::words::is_word;
+use line_parts::words::word;
 use text::lines::first_line;
 use text::lines::first_line_length;
-use text::words::is_word;
-use text::words::word;
 
 // What was expected at a line.
 pub enum HeadingFault {

@@ -12,9 +12,9 @@ use line_kinds::kinds::is_either;
 use line_kinds::kinds::is_heading;
 use line_kinds::kinds::kind_of;
 use line_kinds::kinds::same_kind;
+use line_parts::words::word;
 use text::lines::first_line;
 use text::lines::first_line_length;
-use text::words::word;
 
 // The number of a heading's line, counted from 1, and the places where it and the next line start.
 // The line is 0 and the places are the end of the text where it is not in the text.

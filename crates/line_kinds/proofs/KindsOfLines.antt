@@ -10,7 +10,7 @@ use lib.ListN.{length, getD, take, drop, drop-of-length-le}
 use lib.Seq.{drop-cons}
 use Rattle.text.specs.Bytes.{double-quote, is-letter}
 use Rattle.text.specs.Search.{before, from}
-use Rattle.text.specs.Words.{word}
+use Rattle.line_parts.specs.Words.{word}
 use Rattle.text.specs.declared.search.Sought.the-variants.{NotSpace, NeitherSpaceNor}
 use Rattle.text.proofs.Searches.{whole-rest, found-within, from-found}
 use Rattle.line_kinds.specs.Kinds.{begins-with-letter, begins-heading, blank-or-separators, heading-of, kind-from, kind-of}

@@ -6,8 +6,8 @@ use lib.Dec.{eqb}
 use Rattle.figures.specs.Bytes.{bytes}
 use Rattle.text.specs.Bytes.{double-quote, is-letter}
 use Rattle.text.specs.Search.{from}
-use Rattle.text.specs.Cells.{from-content}
-use Rattle.text.specs.Words.{word, is-word}
+use Rattle.line_parts.specs.Cells.{from-content}
+use Rattle.line_parts.specs.Words.{word, is-word}
 use Rattle.text.specs.declared.search.Sought.the-variants.{NotSpace}
 use Rattle.line_kinds.specs.declared.kinds.LineKind.{LineKind}
 use Rattle.line_kinds.specs.declared.kinds.LineKind.the-variants.{Blank, Separators, Payments, Adjustments, Weights, Openings, Cut, Cell, Row, Unknown}

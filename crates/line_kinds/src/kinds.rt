@@ -2,11 +2,11 @@
 ghost use mathlib.Core.Path.{_≡_};
 ghost use Rattle.text.specs.Search.{from};
 ghost use Rattle.line_kinds.specs.Kinds.{kind-of, blank-or-separators, begins-heading, begins-with-letter, heading-of, is-either, is-heading, has-rows, number-of, same-kind};
+use line_parts::words::is_word;
+use line_parts::words::word;
 use text::bytes::is_letter;
 use text::search::Sought;
 use text::search::find;
-use text::words::is_word;
-use text::words::word;
 
 pub enum LineKind {
     Blank,

@@ -9,7 +9,7 @@ use lib.Dec.{ltb}
 use lib.ListN.{length, getD, take, drop, length-drop}
 use Rattle.text.specs.Bytes.{double-quote}
 use Rattle.text.specs.Search.{before, from}
-use Rattle.text.specs.Cells.{first-cell}
+use Rattle.line_parts.specs.Cells.{first-cell}
 use Rattle.text.specs.declared.search.Sought.the-variants.{Byte, NotSpace}
 use Rattle.text.proofs.Searches.{whole-rest, before-within, found-within, from-found}
 use Rattle.met_text.specs.Met.{quoted-length, met-first}

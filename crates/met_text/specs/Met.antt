@@ -7,7 +7,7 @@ use lib.ListN.{length, getD, take, drop}
 use Rattle.text.specs.Bytes.{double-quote}
 use Rattle.text.specs.Search.{before, has-byte, from}
 use Rattle.text.specs.Lines.{lines, line-of}
-use Rattle.text.specs.Cells.{trimmed, first-cell, from-field, separator-of}
+use Rattle.line_parts.specs.Cells.{trimmed, first-cell, from-field, separator-of}
 use Rattle.text.specs.declared.search.Sought.the-variants.{Byte, NotSpace}
 
 -- The length of the text in double quotes that stands at the start of another, with its quotes; 0 where none does.

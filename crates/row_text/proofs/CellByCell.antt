@@ -7,7 +7,7 @@ use native.Mathlib.Omega.{arith}
 use lib.IntN.{ℤ}
 use lib.ListN.{length, take, drop, set, length-set, length-drop}
 use lib.Seq.{append-snoc, drop-drop, take-all, take-suc-set, length-take-le}
-use Rattle.text.specs.Cells.{first-cell, after-cell}
+use Rattle.line_parts.specs.Cells.{first-cell, after-cell}
 use Rattle.text.proofs.Searches.{whole-rest}
 use Rattle.row_text.specs.Rows.{RowNumbers, numbers, wrong, with-number, after-entry, row-read, RowReadAs, OpeningsReadAs}
 use Rattle.row_text.specs.declared.entries.CellFault.{CellFault}

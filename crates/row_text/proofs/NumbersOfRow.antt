@@ -8,7 +8,7 @@ use lib.Dec.{ltb}
 use lib.IntN.{ℤ}
 use lib.ListN.{length}
 use Rattle.figures.specs.Reading.{figure-of}
-use Rattle.text.specs.Cells.{first-cell, after-cell, from-content}
+use Rattle.line_parts.specs.Cells.{first-cell, after-cell, from-content}
 use Rattle.row_text.specs.Entries.{entry-of}
 use Rattle.row_text.specs.Rows.{RowNumbers, after-entry, ended, numbers-from, row-read, RowReadAs}
 use Rattle.row_text.specs.declared.entries.Entry.{Entry}

@@ -9,7 +9,7 @@ use lib.IntN.{pos}
 use lib.ListN.{length, drop, drop-of-length-le}
 use lib.Seq.{drop-cons}
 use Rattle.figures.specs.Reading.{figure-of}
-use Rattle.text.specs.Cells.{first-cell, after-cell, from-content}
+use Rattle.line_parts.specs.Cells.{first-cell, after-cell, from-content}
 use Rattle.row_text.specs.Entries.{entry-of}
 use Rattle.row_text.specs.Rows.{RowNumbers, numbers, wrong, after-entry, openings-from}
 use Rattle.row_text.specs.declared.entries.CellFault.the-variants.{NoFurtherOpening}

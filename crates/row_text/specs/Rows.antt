@@ -10,7 +10,7 @@ use Rattle.figures.specs.Reading.{figure-of}
 use Rattle.text.specs.Bytes.{longest-text}
 use Rattle.text.specs.Search.{before}
 use Rattle.text.specs.declared.search.Sought.the-variants.{NeitherSpaceNor}
-use Rattle.text.specs.Cells.{first-cell, after-cell, from-content}
+use Rattle.line_parts.specs.Cells.{first-cell, after-cell, from-content}
 use Rattle.row_text.specs.Entries.{entry-of}
 use Rattle.row_text.specs.declared.entries.CellFault.{CellFault}
 use Rattle.row_text.specs.declared.entries.CellFault.the-variants.{RowEnd, NoFurtherOpening}

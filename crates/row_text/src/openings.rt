@@ -6,8 +6,8 @@ use crate::entries::Entry;
 use crate::entries::entry_in;
 use crate::rows::RowRead;
 use crate::rows::wrong_cell;
-use text::cells::first_cell;
-use text::cells::first_cell_length;
+use line_parts::cells::first_cell;
+use line_parts::cells::first_cell_length;
 use text::search::Sought;
 use text::search::find;
 

@@ -3,13 +3,13 @@ ghost use mathlib.Core.Path.{_≡_};
 ghost use Prim.Native.Nat.{_≤_};
 ghost use lib.ListN.{length};
 ghost use Rattle.text.specs.Bytes.{longest-text};
-ghost use Rattle.text.specs.Cells.{from-content};
+ghost use Rattle.line_parts.specs.Cells.{from-content};
 ghost use Rattle.row_text.specs.Rows.{row-numbers, row-read, entry-read, ended, occurrences, RowInput, RowReadAs};
 use crate::entries::CellFault;
 use crate::entries::Entry;
 use crate::entries::entry_in;
-use text::cells::first_cell;
-use text::cells::first_cell_length;
+use line_parts::cells::first_cell;
+use line_parts::cells::first_cell_length;
 use text::search::Sought;
 use text::search::find;
 

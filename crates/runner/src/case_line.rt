@@ -7,8 +7,8 @@ use crate::numbers::read_numbers;
 use crate::printing::print;
 use crate::reserve_call::try_reserve;
 use crate::row_call::try_row;
+use line_parts::cells::field;
 use rows::AmountList;
-use text::cells::field;
 
 // Prints what is tried, and what its call answers.
 pub(crate) fn work(line: &[u8]) {

@@ -3,7 +3,7 @@ ghost use mathlib.Core.Path.{_≡_};
 ghost use Rattle.text.specs.Bytes as meaning;
 
 // The small letter of a capital one; every other byte as it is.
-pub(crate) fn small(byte: u8) -> u8
+pub fn small(byte: u8) -> u8
     ensures { λ r. ⌜ r ≡ meaning.small byte ⌝ }
 {
     if (b'A' <= byte) & (byte <= b'Z') {

@@ -1,6 +1,4 @@
-// The lines of a text, and the cells and the words of a line.
+// The lines of a text, and what is sought in them.
 pub mod bytes;
-pub mod cells;
 pub mod lines;
 pub mod search;
-pub mod words;

@@ -8,7 +8,7 @@ use borrow.Author.Tests.{eqb-true, lt-leb}
 use lib.Dec.{eqb, leb}
 use lib.ListN.{length, length-append}
 use Rattle.text.specs.Lines.{lines, others-of}
-use Rattle.text.specs.Cells.{separator-of}
+use Rattle.line_parts.specs.Cells.{separator-of}
 use Rattle.line_kinds.specs.Kinds.{kind-of, is-heading, has-rows, same-kind}
 use Rattle.headings.specs.Places.{from-heading, number-after-lines, line-number, left-after, row-line-after, row-line}
 use Rattle.headings.specs.Faults.{check, line-check, under-after, or-later, fault-after, heading-fault}

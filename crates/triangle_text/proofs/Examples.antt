@@ -5,8 +5,8 @@ use Rattle.figures.specs.Reading.{all-digits, value-after, whole-of, number-of,
 use Rattle.text.specs.Bytes.{small, is-letter}
 use Rattle.text.specs.Search.{before, from}
 use Rattle.text.specs.Lines.{whole-lines, before-comment, lines}
-use Rattle.text.specs.Cells.{separator-in, without-last-spaces, trimmed}
-use Rattle.text.specs.Words.{word, is-word}
+use Rattle.line_parts.specs.Cells.{separator-in, without-last-spaces, trimmed}
+use Rattle.line_parts.specs.Words.{word, is-word}
 use Rattle.line_kinds.specs.Kinds.{is-either, heading-of, begins-heading, kind-of}
 use Rattle.headings.specs.Places.{from-heading, number-after-lines, rows-in, number-after, is-cumulated}
 use Rattle.headings.specs.Faults.{is-number, is-no-word, says-how, amount-words, cut-words, cell-words, no-words, fault-after}

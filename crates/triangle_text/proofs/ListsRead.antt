@@ -14,7 +14,7 @@ use Rattle.integers.proofs.RingSolver.{con}
 use Rattle.integers.proofs.LinearFacts.{fits-by}
 use Rattle.text.specs.Bytes.{longest-text}
 use Rattle.text.specs.Lines.{lines}
-use Rattle.text.specs.Cells.{separator-of}
+use Rattle.line_parts.specs.Cells.{separator-of}
 use Rattle.headings.specs.Faults.{heading-fault}
 use Rattle.headings.specs.declared.faults.HeadingFault.{HeadingFault}
 use Rattle.headings.specs.declared.faults.FirstFault as heading

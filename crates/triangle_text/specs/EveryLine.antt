@@ -5,7 +5,7 @@ use mathlib.Core.Bool.{true, false}
 use mathlib.Core.List.{List, [], _∷_}
 use Prim.Native.Nat.{ℕ, suc, _≤_}
 use Rattle.text.specs.Lines.{lines}
-use Rattle.text.specs.Cells.{separator-of}
+use Rattle.line_parts.specs.Cells.{separator-of}
 use Rattle.line_kinds.specs.Kinds.{kind-of, has-rows}
 use Rattle.headings.specs.Places.{line-number, row-line}
 use Rattle.headings.specs.Faults.{under-after}

@@ -7,7 +7,7 @@ use lib.Dec.{ltb, eqb}
 use lib.IntN.{ℤ, pos, natAbs}
 use lib.ListN.{length, getD, take, drop}
 use Rattle.text.specs.Lines.{lines}
-use Rattle.text.specs.Cells.{separator-of}
+use Rattle.line_parts.specs.Cells.{separator-of}
 use Rattle.headings.specs.Places.{line-number, lines-under, rows-in, number-after, is-cumulated}
 use Rattle.headings.specs.Faults.{heading-fault}
 use Rattle.line_kinds.specs.declared.kinds.LineKind.{LineKind}

@@ -24,7 +24,7 @@ use headings::places::find_heading;
 use headings::places::is_cumulated;
 use headings::places::number_after;
 use line_kinds::kinds::LineKind;
-use text::cells::separator_of;
+use line_parts::cells::separator_of;
 use verdicts::limits::ACCIDENT_YEARS;
 use verdicts::limits::FEWEST_YEARS;
 use verdicts::limits::MOST_YEARS;

@@ -2,7 +2,7 @@
 use mathlib.Core.Path.{_∙_}
 use mathlib.Core.Path.{ap}
 use borrow.Author.Needs.{needs}
-use Rattle.text.specs.Cells.{is-empty}
+use Rattle.line_parts.specs.Cells.{is-empty}
 use Rattle.headings.specs.Faults.{is-no-word}
 use Rattle.headings.proofs.LineChecks.{empty-by-length}
 use Rattle.headings.proofs.faults.is_no_word.Statement.{statement}

@@ -1,7 +1,7 @@
 -- The line that is read is the heading's.
 use mathlib.Core.Path.{ap, _∙_}
 use borrow.Author.Needs.{needs}
-use Rattle.text.specs.Words.{word}
+use Rattle.line_parts.specs.Words.{word}
 use Rattle.headings.specs.Places.{says-cumulated, is-cumulated}
 use Rattle.headings.proofs.HeadingSearch.{found-line}
 use Rattle.headings.proofs.places.is_cumulated.Statement.{statement}

@@ -5,7 +5,7 @@ use mir.Facts.{toZ-ofZ}
 use mir.Syntax.{w64}
 use Rattle.figures.specs.Reading.{figure-of}
 use Rattle.text.specs.Lines.{lines}
-use Rattle.text.specs.Words.{word}
+use Rattle.line_parts.specs.Words.{word}
 use Rattle.headings.specs.Places.{whole-or, number-after}
 use Rattle.headings.proofs.HeadingSearch.{found-line}
 use Rattle.headings.proofs.places.number_after.Statement.{statement}

@@ -5,7 +5,7 @@ use mathlib.Core.List.{List}
 use Prim.Native.Nat.{ℕ}
 use borrow.Author.Needs.{needs}
 use Rattle.figures.specs.Bytes.{bytes}
-use Rattle.text.specs.Words.{is-word}
+use Rattle.line_parts.specs.Words.{is-word}
 use Rattle.line_kinds.specs.Kinds.{is-either, heading-of}
 use Rattle.line_kinds.proofs.kinds.heading_of.Statement.{statement}
 use Rattle.line_kinds.proofs.kinds.heading_of.Tie as tie

@@ -3,7 +3,7 @@ use mathlib.Core.Path.{ap, _∙_}
 use Prim.Native.Nat.{_-_}
 use borrow.Author.Needs.{needs}
 use borrow.Author.Tests.{eq-eqb, ne-eqb}
-use Rattle.text.specs.Cells.{trimmed, from-field}
+use Rattle.line_parts.specs.Cells.{trimmed, from-field}
 use Rattle.met_text.specs.Met.{met-first, met-at}
 use Rattle.met_text.proofs.met.met_at.Statement.{statement}
 use Rattle.met_text.proofs.met.met_at.Tie as tie

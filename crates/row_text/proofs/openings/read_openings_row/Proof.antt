@@ -8,7 +8,7 @@ use borrow.Author.Needs.{needs}
 use lib.IntN.{ℤ}
 use lib.ListN.{length, drop}
 use Rattle.integers.proofs.MachineArithmetic.{held}
-use Rattle.text.specs.Cells.{after-cell, from-content}
+use Rattle.line_parts.specs.Cells.{after-cell, from-content}
 use Rattle.text.specs.declared.search.Sought.the-variants.{NeitherSpaceNor}
 use Rattle.text.proofs.Searches.{found-within-rest, from-found-in-rest}
 use Rattle.row_text.specs.Rows.{RowNumbers, after-entry, openings-numbers, entry-read}

@@ -10,7 +10,7 @@ use lib.ListN.{length, drop, length-drop}
 use mir.Syntax.{w64}
 use mir.Val.{toZ}
 use Rattle.integers.proofs.MachineArithmetic.{held}
-use Rattle.text.specs.Cells.{after-cell}
+use Rattle.line_parts.specs.Cells.{after-cell}
 use Rattle.text.proofs.Searches.{whole-rest}
 use Rattle.row_text.specs.Rows.{RowNumbers, after-entry, row-numbers, entry-read}
 use Rattle.row_text.proofs.CellByCell.{part-from, cell-here, ReadSoFar, nothing-read, cell-within, cell-read, cell-wrong, row-wrong}

@@ -6,7 +6,7 @@ use borrow.Author.Needs.{needs}
 use lib.ListN.{length, drop, drop-of-length-le}
 use lib.Seq.{drop-cons}
 use Rattle.text.specs.Search.{before}
-use Rattle.text.specs.Cells.{from-content}
+use Rattle.line_parts.specs.Cells.{from-content}
 use Rattle.text.specs.declared.search.Sought.the-variants.{NeitherSpaceNor}
 use Rattle.text.proofs.Searches.{before-within, found-within, from-found, part-before-found}
 use Rattle.row_text.specs.Rows.{row-read, ended, occurrences}
