@@ -11,7 +11,7 @@ use Rattle.figures.specs.Bytes.{bytes}
 use Rattle.completed.specs.declared.shown.Shown.{Shown}
 use Rattle.completed.specs.declared.shown.Shown.the-variants.{Missing, Observed, Projected}
 use Rattle.printed.specs.Entries.{set-right, count-text, entries-after}
-use Rattle.printed.proofs.Room.{number-length, amount-length, set-right-length, count-length, short-count-length, entries-length}
+use Rattle.printed.proofs.Room.{number-length, amount-length, set-right-length, short-count-length, entries-length}
 use Rattle.printed.proofs.Widths.{width-within-widest, widest-within}
 use Rattle.completed_table.specs.CompletedRows.{shown-entry, last-in-part, years-heading, cell-shown, row-width, completed-column, completed-row}
 use Rattle.completed_table.specs.declared.completed_rows.Table.{Table}
@@ -72,16 +72,16 @@ module _ (n cut : ℕ) (payments adjustments openings future : List ℤ) (table 
         width-within-widest (row-width n cut payments adjustments openings future table) 0 1 n i i-first (omega arith),
       )
 
-  pub completed-row-fits : (i before : ℕ) → 1 ≤ i → i ≤ n
-      → length (completed-row n cut payments adjustments openings future table i before (last-in-part n before column) column) ≤ 512
+  pub completed-row-fits : n ≤ 32 → (i before : ℕ) → 1 ≤ i → i ≤ n
+      → length (completed-row n cut payments adjustments openings future table i before (last-in-part n before column) column) ≤ 120
   unfolding completed-row
-  completed-row-fits i before first last =
+  completed-row-fits few i before first last =
       let years = last-in-part n before column - before in
       omega (
         arith,
         length-append (set-right 13 (count-text i)) (entries-after (text-in i) column before years),
         set-right-length 13 (count-text i),
-        count-length i,
+        short-count-length i (omega arith),
         entries-length (text-in i) column column before years (omega arith)
             (λ k from to. text-within-column i k first last (omega arith) (omega (arith, last-within n before column))),
         part-length n before column completed-column-most,
@@ -96,7 +96,7 @@ module _ (n before column : ℕ) (few : n ≤ 32) (narrow : column ≤ 36) where
       entries-length count-text column most before years wide-enough
       (λ k from to. omega (arith, short-count-length k (omega (arith, last-within n before column))))
 
-  pub years-heading-fits : length (years-heading before (last-in-part n before column) column) ≤ 512
+  pub years-heading-fits : length (years-heading before (last-in-part n before column) column) ≤ 511
   unfolding years-heading
   years-heading-fits =
       omega (arith, length-append (bytes "accident year") (entries-after count-text column before years), go (decLe 3 column))

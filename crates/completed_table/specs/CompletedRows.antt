@@ -61,16 +61,21 @@ module _ (n cut : ℕ) (payments adjustments openings future : List ℤ) where
   unfoldable pub completed-column : Table → ℕ
   completed-column table = widest-from (row-width table) 0 1 n
 
-  -- Where the seen cells of row i are within the limits of questions 5 and 6, as in every accepted triangle, the line r is that row,
-  -- the cell r is what stands there, and r is the row's width; of all rows, r is the table's.
-  pub record RowShown (table : Table) (i before last column : ℕ) (r : Line) : Type 0 where
-    pub is : ((k : ℕ) → i + k ≤ n + 1 → RowWithin lists i k) → LineIs (completed-row table i before last column) r
+  -- The seen cells of row i are within the limits of questions 5 and 6, as in every accepted triangle
+  -- (`rows-within` in crates/completed/proofs/AcceptedRows.antt).
+  abbrev pub RowSeenWithin : ℕ → Type 0
+  RowSeenWithin i = (k : ℕ) → i + k ≤ n + 1 → RowWithin lists i k
 
+  -- Where they are, the cell r is what stands there, the line r is that row, and r is the row's width.
   pub record CellShown (table : Table) (i k : ℕ) (r : Shown) : Type 0 where
-    pub is : ((k : ℕ) → i + k ≤ n + 1 → RowWithin lists i k) → r ≡ cell-shown table i k
+    pub is : RowSeenWithin i → r ≡ cell-shown table i k
+
+  pub record RowShown (table : Table) (i before last column : ℕ) (r : Line) : Type 0 where
+    pub is : RowSeenWithin i → LineIs (completed-row table i before last column) r
 
   pub record RowWidthIs (table : Table) (i r : ℕ) : Type 0 where
-    pub is : ((k : ℕ) → i + k ≤ n + 1 → RowWithin lists i k) → r ≡ row-width table i
+    pub is : RowSeenWithin i → r ≡ row-width table i
 
+  -- Where those of all rows are, r is the table's width.
   pub record ColumnIs (table : Table) (r : ℕ) : Type 0 where
-    pub is : ((i k : ℕ) → i + k ≤ n + 1 → RowWithin lists i k) → r ≡ completed-column table
+    pub is : ((i : ℕ) → RowSeenWithin i) → r ≡ completed-column table

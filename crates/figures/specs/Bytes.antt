@@ -1,4 +1,4 @@
--- The bytes of a quoted text of plain characters, for the examples.
+-- The bytes of a quoted text of plain characters.
 use mathlib.Core.List.{List, [], _∷_}
 use Prim.Native.Nat.{ℕ}
 use Prim.Native.Char.{code}

@@ -17,7 +17,9 @@ use Rattle.triangle_text.specs.declared.faults.Expected.the-variants.{InHeading
 use Rattle.printed.specs.Filling.{places}
 use Rattle.printed.proofs.Room.{one-of-two, filled-fits}
 use Rattle.met_text.specs.ShownText.{shown-byte, shown-text}
-use Rattle.malformed.specs.Messages.{fault-place, expected-heading, expected-cell, expected-text, fault-line}
+use Rattle.malformed.specs.Messages.{fault-place, expected-heading, expected-cell, expected-text, fault-line, advice-of-heading, number-advice, advice-of-cell, advice, mistake-of}
+use Rattle.malformed.specs.declared.advice.Mistake.{Mistake}
+use Rattle.malformed.specs.declared.advice.Mistake.the-variants.{Comment, SpreadsheetError, Quotes, Brackets, TypographicMinus, Word, PowerOfTen, Other}
 
 fault-place-fits : (line cell : ℕ) → length (fault-place line cell) ≤ 128
 unfolding fault-place places
@@ -58,7 +60,7 @@ shown-fits met =
     (omega (arith, first-bytes-fit met))
     (omega (arith, first-bytes-fit met, length-append (map shown-byte (take 40 met)) (bytes "..."))))
 
-pub fault-line-fits : (line cell : ℕ) (expected : Expected) (met : List ℕ) → length (fault-line line cell expected met) ≤ 512
+pub fault-line-fits : (line cell : ℕ) (expected : Expected) (met : List ℕ) → length (fault-line line cell expected met) ≤ 511
 unfolding fault-line
 fault-line-fits line cell expected met =
     let and-met = bytes ", and met " in
@@ -71,3 +73,39 @@ fault-line-fits line cell expected met =
       leb-true (length (expected-text expected)) 128 (expected-fits expected),
       shown-fits met,
     )
+
+-- ---- The second line
+
+heading-advice-fits : (fault : HeadingFault) → leb (length (advice-of-heading fault)) 511 ≡ true
+heading-advice-fits HeadingBeforeRow = refl
+heading-advice-fits FiguresInRow = refl
+heading-advice-fits KnownHeading = refl
+heading-advice-fits HeadingOnce = refl
+heading-advice-fits CumulatedOrIncremental = refl
+heading-advice-fits NothingAfterHeading = refl
+heading-advice-fits NumberAfterCut = refl
+heading-advice-fits YearsAfterCell = refl
+
+number-advice-fits : (mistake : Mistake) → leb (length (number-advice mistake)) 511 ≡ true
+number-advice-fits Comment = refl
+number-advice-fits SpreadsheetError = refl
+number-advice-fits Quotes = refl
+number-advice-fits Brackets = refl
+number-advice-fits TypographicMinus = refl
+number-advice-fits Word = refl
+number-advice-fits PowerOfTen = refl
+number-advice-fits Other = refl
+
+cell-advice-fits : (fault : CellFault) (met : List ℕ) → leb (length (advice-of-cell fault met)) 511 ≡ true
+cell-advice-fits NoFurtherOpening met = refl
+cell-advice-fits NumberForBlank met = refl
+cell-advice-fits WholeNumber met = number-advice-fits (mistake-of met)
+cell-advice-fits SixtyFourBits met = refl
+cell-advice-fits DifferenceOfSixtyFourBits met = refl
+cell-advice-fits RowEnd met = refl
+
+pub advice-fits : (expected : Expected) (met : List ℕ) → leb (length (advice expected met)) 511 ≡ true
+advice-fits (InHeading fault) met = heading-advice-fits fault
+advice-fits (InCell fault) met = cell-advice-fits fault met
+advice-fits Incremental met = refl
+advice-fits NoFurtherRow met = refl

@@ -7,7 +7,7 @@ use Rattle.headings.specs.declared.faults.HeadingFault.the-variants.{CumulatedO
 use Rattle.row_text.specs.declared.entries.CellFault.the-variants.{NumberForBlank, WholeNumber}
 use Rattle.triangle_text.specs.declared.faults.Expected.{Expected}
 use Rattle.triangle_text.specs.declared.faults.Expected.the-variants.{InHeading, InCell}
-use Rattle.met_text.specs.Examples.{Printed, _shows_, all-of}
+use Rattle.printed.specs.WorkedLines.{Printed, _shows_, all-of}
 use Rattle.malformed.specs.Messages.{fault-line, advice}
 
 abbrev pub no-number : Expected

@@ -3,7 +3,6 @@ use mathlib.Core.Path.{_≡_, refl, sym, ap, subst, _∙_}
 use mathlib.Core.List.{List, [], _∷_, _++_, append-assoc, append-nil}
 use Prim.Native.Nat.{ℕ, zero, suc, _+_, _-_, _≤_, _<_}
 use native.Mathlib.Numerals.{add-one}
-use native.Mathlib.Decide.{decLe}
 use native.Mathlib.Omega.{arith}
 use lib.ListN.{length, getD, take, drop, set, replicate, length-take, length-replicate, drop-of-length-le}
 use lib.Seq.{take-all, take-at, drop-at, take-suc-set, drop-cons}
@@ -60,17 +59,6 @@ pub one-space-more : {line next r : Line} (left : ℕ) → 0 < left → After li
 one-space-more {line} {next} {r} left h first second =
     let more : suc (left - 1) ≡ left = omega arith in
     subst (λ n. After line (replicate n space) r) more (both-after first second)
-
--- ---- A part
-
-pub first-bytes : (text : List ℕ) (count : ℕ) → take (length text - (length text - count) - 0) text ≡ take count text
-first-bytes text count = go (decLe count (length text))
-  where
-    go : Dec (count ≤ length text) → take (length text - (length text - count) - 0) text ≡ take count text
-    go (yes h) =
-        let all : length text - (length text - count) - 0 ≡ count = omega arith in
-        ap (λ n. take n text) all
-    go (no h) = take-all (length text - (length text - count) - 0) text (omega arith) ∙ sym (take-all count text (omega arith))
 
 -- ---- A figure
 

@@ -76,7 +76,7 @@ pub filled-fits : (most : ℕ) (template : List ℕ) (numbers : List ℤ) → le
     → length (filled template numbers) ≤ most
 filled-fits most template numbers e = omega (arith, filled-length template numbers, leb-true (length template + 28 * places template) most e)
 
--- a line that is a text with room for it is the whole of it
+-- So a line that is a text with room for it is the whole of it; the line's end is one byte more.
 pub whole-line : {r : Line} (text : List ℕ) → length text ≤ 512 → LineIs text r → text-of r ≡ text
 whole-line text h line = line .is ∙ fitted-whole text h
 

@@ -3,7 +3,7 @@ ghost use mathlib.Core.List.{[], _∷_};
 ghost use Prim.Native.Nat.{_-_};
 ghost use lib.ListN.{length, take, drop, replicate};
 ghost use Rattle.written_figures.specs.Writing.{space, whole-text};
-ghost use Rattle.printed.specs.Line.{text-of, LineIs, After};
+ghost use Rattle.printed.specs.Line.{LineIs, After};
 use crate::counts::less;
 use written_figures::writing::Written;
 use written_figures::writing::whole;
@@ -55,22 +55,6 @@ pub fn with_text(line: Line, text: &[u8]) -> Line
         bytes: bytes,
         length: length,
     }
-}
-
-// A line with another after it.
-pub fn with_line(line: Line, other: Line) -> Line
-    ensures { λ r. ⌜ After line (text-of other) r ⌝ }
-{
-    let bytes = other.bytes;
-    with_first(line, &bytes, other.length)
-}
-
-// The first bytes of a text, or all where there are no more.
-fn with_first(line: Line, text: &[u8], count: usize) -> Line
-    ensures { λ r. ⌜ After line (take count (now (text .entry))) r ⌝ }
-{
-    let end = less(text.len(), less(text.len(), count));
-    with_text(line, &text[0..end])
 }
 
 pub fn with_byte(line: Line, byte: u8) -> Line

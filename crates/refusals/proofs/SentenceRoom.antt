@@ -16,71 +16,71 @@ use Rattle.refusals.specs.declared.found.Found.{Found}
 use Rattle.refusals.specs.Sentences.{refused-line, years-sentence, cut-sentence, lengths-sentence, weight-sentence, weight-not-0-sentence, payment-sentence, adjustment-sentence, opening-sentence, outstanding-sentence, exposure-sentence, projected-sentence, seen-cell-sentence, amounts-sentence, observed-sentence, sentence, see-line, see-lines}
 
 -- the text of one of two lines
-either : (b : Bool) (x y : List ℕ) → length x ≤ 512 → length y ≤ 512 → length (cond b x y) ≤ 512
-either = one-of-two length 512
+either : (b : Bool) (x y : List ℕ) → length x ≤ 511 → length y ≤ 511 → length (cond b x y) ≤ 511
+either = one-of-two length 511
 
-pub refused-line-fits : (question : ℕ) (i k : ℤ) → length (refused-line question i k) ≤ 512
+pub refused-line-fits : (question : ℕ) (i k : ℤ) → length (refused-line question i k) ≤ 511
 unfolding refused-line places
-refused-line-fits question i k = filled-fits 512 _ _ refl
+refused-line-fits question i k = filled-fits 511 _ _ refl
 
-years-fits : (years : ℤ) → length (years-sentence years) ≤ 512
+years-fits : (years : ℤ) → length (years-sentence years) ≤ 511
 unfolding years-sentence places
-years-fits years = filled-fits 512 _ _ refl
+years-fits years = filled-fits 511 _ _ refl
 
-cut-fits : (cut years : ℤ) → length (cut-sentence cut years) ≤ 512
+cut-fits : (cut years : ℤ) → length (cut-sentence cut years) ≤ 511
 unfolding cut-sentence places
-cut-fits cut years = filled-fits 512 _ _ refl
+cut-fits cut years = filled-fits 511 _ _ refl
 
-lengths-fits : (lent : Lent) → length (lengths-sentence lent) ≤ 512
+lengths-fits : (lent : Lent) → length (lengths-sentence lent) ≤ 511
 unfolding lengths-sentence places
-lengths-fits lent = filled-fits 512 _ _ refl
+lengths-fits lent = filled-fits 511 _ _ refl
 
 module _ (i k : ℤ) where
-  weight-fits : (x : ℤ) → length (weight-sentence i k x) ≤ 512
+  weight-fits : (x : ℤ) → length (weight-sentence i k x) ≤ 511
   unfolding weight-sentence places
-  weight-fits x = filled-fits 512 _ _ refl
+  weight-fits x = filled-fits 511 _ _ refl
 
-  weight-not-0-fits : (x : ℤ) → length (weight-not-0-sentence i k x) ≤ 512
+  weight-not-0-fits : (x : ℤ) → length (weight-not-0-sentence i k x) ≤ 511
   unfolding weight-not-0-sentence places
-  weight-not-0-fits x = filled-fits 512 _ _ refl
+  weight-not-0-fits x = filled-fits 511 _ _ refl
 
-  payment-fits : (x : ℤ) → length (payment-sentence i k x) ≤ 512
+  payment-fits : (x : ℤ) → length (payment-sentence i k x) ≤ 511
   unfolding payment-sentence places
-  payment-fits x = either (from-to (negℤ greatest-amount) greatest-amount x) _ _ (filled-fits 512 _ _ refl) (filled-fits 512 _ _ refl)
+  payment-fits x = either (from-to (negℤ greatest-amount) greatest-amount x) _ _ (filled-fits 511 _ _ refl) (filled-fits 511 _ _ refl)
 
-  adjustment-fits : (x : ℤ) → length (adjustment-sentence i k x) ≤ 512
+  adjustment-fits : (x : ℤ) → length (adjustment-sentence i k x) ≤ 511
   unfolding adjustment-sentence places
-  adjustment-fits x = either (from-to (negℤ greatest-amount) greatest-amount x) _ _ (filled-fits 512 _ _ refl) (filled-fits 512 _ _ refl)
+  adjustment-fits x = either (from-to (negℤ greatest-amount) greatest-amount x) _ _ (filled-fits 511 _ _ refl) (filled-fits 511 _ _ refl)
 
-  opening-fits : (x : ℤ) → length (opening-sentence i k x) ≤ 512
+  opening-fits : (x : ℤ) → length (opening-sentence i k x) ≤ 511
   unfolding opening-sentence places
-  opening-fits x = filled-fits 512 _ _ refl
+  opening-fits x = filled-fits 511 _ _ refl
 
-  outstanding-fits : (x : ℤ) → length (outstanding-sentence i k x) ≤ 512
+  outstanding-fits : (x : ℤ) → length (outstanding-sentence i k x) ≤ 511
   unfolding outstanding-sentence places
-  outstanding-fits x = either (ltZ x (pos 0)) _ _ (filled-fits 512 _ _ refl) (filled-fits 512 _ _ refl)
+  outstanding-fits x = either (ltZ x (pos 0)) _ _ (filled-fits 511 _ _ refl) (filled-fits 511 _ _ refl)
 
-  projected-fits : length (projected-sentence i k) ≤ 512
+  projected-fits : length (projected-sentence i k) ≤ 511
   unfolding projected-sentence places
-  projected-fits = filled-fits 512 _ _ refl
+  projected-fits = filled-fits 511 _ _ refl
 
-  seen-cell-fits : length (seen-cell-sentence i k) ≤ 512
+  seen-cell-fits : length (seen-cell-sentence i k) ≤ 511
   unfolding seen-cell-sentence places
-  seen-cell-fits = filled-fits 512 _ _ refl
+  seen-cell-fits = filled-fits 511 _ _ refl
 
-  amounts-fit : (found : Found) → length (amounts-sentence i k found) ≤ 512
+  amounts-fit : (found : Found) → length (amounts-sentence i k found) ≤ 511
   unfolding amounts-sentence
   amounts-fit found = either (found .«payment_right») _ _ (adjustment-fits (found .adjustment)) (payment-fits (found .payment))
 
-  observed-fits : (found : Found) → length (observed-sentence i k found) ≤ 512
+  observed-fits : (found : Found) → length (observed-sentence i k found) ≤ 511
   unfolding observed-sentence
   observed-fits found = either (found .opening) _ _ (opening-fits (found .outstanding)) (outstanding-fits (found .outstanding))
 
-exposure-fits : (k : ℤ) → length (exposure-sentence k) ≤ 512
+exposure-fits : (k : ℤ) → length (exposure-sentence k) ≤ 511
 unfolding exposure-sentence places
-exposure-fits k = filled-fits 512 _ _ refl
+exposure-fits k = filled-fits 511 _ _ refl
 
-pub sentence-fits : (question : ℕ) (i k : ℤ) (lent : Lent) (found : Found) → length (sentence question i k lent found) ≤ 512
+pub sentence-fits : (question : ℕ) (i k : ℤ) (lent : Lent) (found : Found) → length (sentence question i k lent found) ≤ 511
 unfolding sentence
 sentence-fits question i k lent found =
     either (eqb question 1) _ _ (years-fits (lent .years))
@@ -93,10 +93,10 @@ sentence-fits question i k lent found =
     (either (eqb question 8) _ _ (exposure-fits k)
     (either (eqb question 9) _ _ (projected-fits i k) (seen-cell-fits (lent .«accident_year») (lent .«development_year»))))))))))
 
-pub see-line-fits : (line : ℕ) → length (see-line line) ≤ 512
+pub see-line-fits : (line : ℕ) → length (see-line line) ≤ 511
 unfolding see-line places
-see-line-fits line = filled-fits 512 _ _ refl
+see-line-fits line = filled-fits 511 _ _ refl
 
-pub see-lines-fits : (first second : ℕ) → length (see-lines first second) ≤ 512
+pub see-lines-fits : (first second : ℕ) → length (see-lines first second) ≤ 511
 unfolding see-lines places
-see-lines-fits first second = filled-fits 512 _ _ refl
+see-lines-fits first second = filled-fits 511 _ _ refl

@@ -1,23 +1,13 @@
 -- Worked examples: what is printed of some refusals. docs/FORMAT.md has the first three lines.
 -- The statement is proved in proofs/Examples.antt by computing it.
-use mathlib.Core.Path.{_≡_}
 use mathlib.Core.Bool.{true, false}
-use mathlib.Core.List.{List, [], _∷_, map}
+use mathlib.Core.List.{List, [], _∷_}
 use Prim.Native.Nat.{ℕ}
-use Prim.Native.String.{String}
 use lib.IntN.{pos, negℤ}
-use Rattle.figures.specs.Bytes.{bytes}
+use Rattle.printed.specs.WorkedLines.{Printed, _shows_, all-of}
 use Rattle.refusals.specs.Sentences.{refused-line, sentence, see-line, see-lines}
 use Rattle.refusals.specs.declared.found.Lent.{Lent}
 use Rattle.refusals.specs.declared.found.Found.{Found}
-
-pub record Printed : Type 0 where
-  pub text : List ℕ
-  pub shown : String
-
-infix 70 _shows_
-abbrev pub _shows_ : List ℕ → String → Printed
-text shows shown = record { text = text; shown = shown }
 
 -- three accident years and a cut of 2, with an adjustment too few, and a cell that was asked for
 abbrev pub lent : Lent
@@ -70,4 +60,4 @@ refusals =
     ∷ []
 
 abbrev pub Refusals-hold : Type 0
-Refusals-hold = map (λ (p : Printed). p .text) refusals ≡ map (λ (p : Printed). bytes (p .shown)) refusals
+Refusals-hold = all-of refusals

@@ -41,7 +41,7 @@ module _ (outstandings reserves : List ℤ) (n : ℕ) where
 
 four-entries : (column : ℕ) (first a b c d : List ℕ) → column ≤ 35 → length first ≤ 28
     → length a ≤ 35 → length b ≤ 35 → length c ≤ 35 → length d ≤ 35
-    → length (set-right 13 first ++ (entry column a ++ (entry column b ++ (entry column c ++ entry column d)))) ≤ 512
+    → length (set-right 13 first ++ (entry column a ++ (entry column b ++ (entry column c ++ entry column d)))) ≤ 511
 four-entries column first a b c d narrow first-short a-short b-short c-short d-short =
     omega (
       arith,
@@ -57,7 +57,7 @@ four-entries column first a b c d narrow first-short a-short b-short c-short d-s
     )
 
 module _ (outstandings reserves : List ℤ) (n : ℕ) where
-  pub reserves-row-fits : (i : ℕ) → length (reserves-row outstandings reserves i (reserves-column n outstandings reserves)) ≤ 512
+  pub reserves-row-fits : (i : ℕ) → length (reserves-row outstandings reserves i (reserves-column n outstandings reserves)) ≤ 511
   unfolding reserves-row
   reserves-row-fits i =
       four-entries (reserves-column n outstandings reserves) (count-text i)
@@ -65,7 +65,7 @@ module _ (outstandings reserves : List ℤ) (n : ℕ) where
       (reserves-column-most outstandings reserves n) (count-length i) (omega (arith, number-length (getD outstandings (i - 1) (pos 0))))
       (amount-length (year-figure reserves 0 i)) (amount-length (year-figure reserves 1 i)) (amount-length (year-figure reserves 2 i))
 
-  pub totals-row-fits : length (totals-row n outstandings reserves (reserves-column n outstandings reserves)) ≤ 512
+  pub totals-row-fits : length (totals-row n outstandings reserves (reserves-column n outstandings reserves)) ≤ 511
   unfolding totals-row
   totals-row-fits =
       four-entries (reserves-column n outstandings reserves) (bytes "        total")
@@ -74,7 +74,7 @@ module _ (outstandings reserves : List ℤ) (n : ℕ) where
       (reserves-column-most outstandings reserves n) (omega arith) (total-length (outstandings-total outstandings n))
       (total-amount-length (reserves-total reserves 0 n)) (total-amount-length (reserves-total reserves 1 n)) (total-amount-length (reserves-total reserves 2 n))
 
-pub reserves-heading-fits : (column : ℕ) → column ≤ 35 → length (reserves-heading column) ≤ 512
+pub reserves-heading-fits : (column : ℕ) → column ≤ 35 → length (reserves-heading column) ≤ 511
 unfolding reserves-heading
 reserves-heading-fits column narrow =
     four-entries column (bytes "accident year") (bytes "last outstanding") (bytes "paid reserve") (bytes "incurred reserve") (bytes "closing outstanding")

@@ -74,8 +74,8 @@ reserves-width reserves figure n =
     widest-from (λ i. length (amount-text (year-figure reserves figure i)))
     (length (total-text amount-text (reserves-total reserves figure n))) 1 n
 
--- The width of the widest entry of all columns; the widest heading has 19 bytes.
+-- The width of the widest entry of all columns, the widest heading among them.
 unfoldable pub reserves-column : ℕ → List ℤ → List ℤ → ℕ
 reserves-column n outstandings reserves =
     max (max (outstandings-width outstandings n) (reserves-width reserves 0 n))
-    (max (max (reserves-width reserves 1 n) (reserves-width reserves 2 n)) 19)
+    (max (max (reserves-width reserves 1 n) (reserves-width reserves 2 n)) (length (bytes "closing outstanding")))

@@ -1,4 +1,5 @@
 -- Every line of a table has room: with the column that is as wide as its widest entry, no entry is cut off.
+use mathlib.Core.Path.{refl}
 use mathlib.Core.List.{List, _++_}
 use Prim.Native.Nat.{ℕ, _+_, _-_, _≤_}
 use native.Mathlib.Omega.{arith}
@@ -9,10 +10,12 @@ use Rattle.written_figures.specs.Writing.{whole-text, amount-text}
 use Rattle.triangle.specs.Ratios.{no-sums}
 use Rattle.triangle.specs.declared.ratios.Sums.{Sums}
 use Rattle.printed.specs.Entries.{set-right, entry, count-text}
-use Rattle.printed.proofs.Room.{number-length, amount-length, set-right-length, entry-length, count-length}
+use Rattle.printed.specs.Filling.{places}
+use Rattle.printed.proofs.Room.{filled-fits, number-length, amount-length, set-right-length, entry-length, count-length}
 use Rattle.printed.proofs.Widths.{widest-within}
 use Rattle.tables.specs.SumsRows.{sums-width, sums-column, sums-heading, from-year, sums-row}
-use Rattle.tables.specs.OneCell.{cell-column, figure-name, cell-line}
+use Rattle.tables.specs.Accepted.{accepted-line}
+use Rattle.tables.specs.OneCell.{cell-title, cell-column, figure-name, cell-line}
 use Rattle.tables.specs.declared.one_cell.CellFigure.{CellFigure}
 use Rattle.tables.specs.declared.one_cell.CellFigure.the-variants.{Payment, Adjustment, Outstanding}
 
@@ -27,7 +30,7 @@ sums-column-most n ratios =
     widest-within (λ place. sums-width (getD ratios place no-sums)) 28 (λ place. sums-width-most (getD ratios place no-sums)) 1 0 (n - 1) (omega arith)
 
 three-entries : (column : ℕ) (first a b c : List ℕ) → column ≤ 28 → length first ≤ 60 → length a ≤ 28 → length b ≤ 28 → length c ≤ 28
-    → length (set-right 16 first ++ (entry column a ++ (entry column b ++ entry column c))) ≤ 512
+    → length (set-right 16 first ++ (entry column a ++ (entry column b ++ entry column c))) ≤ 511
 three-entries column first a b c narrow first-short a-short b-short c-short =
     omega (
       arith,
@@ -40,12 +43,12 @@ three-entries column first a b c narrow first-short a-short b-short c-short =
       entry-length column c,
     )
 
-pub sums-heading-fits : (column : ℕ) → column ≤ 28 → length (sums-heading column) ≤ 512
+pub sums-heading-fits : (column : ℕ) → column ≤ 28 → length (sums-heading column) ≤ 511
 unfolding sums-heading
 sums-heading-fits column narrow =
     three-entries column (bytes "development year") (bytes "P") (bytes "Q") (bytes "D") narrow (omega arith) (omega arith) (omega arith) (omega arith)
 
-pub sums-row-fits : (ratios : List Sums) (k column : ℕ) → column ≤ 28 → length (sums-row ratios k column) ≤ 512
+pub sums-row-fits : (ratios : List Sums) (k column : ℕ) → column ≤ 28 → length (sums-row ratios k column) ≤ 511
 unfolding from-year sums-row
 sums-row-fits ratios k column narrow =
     let sums = getD ratios (k - 1) no-sums in
@@ -71,7 +74,7 @@ pub cell-column-most : (payment adjustment outstanding : ℤ) → cell-column pa
 unfolding cell-column
 cell-column-most payment adjustment outstanding = omega (arith, amount-length payment, amount-length adjustment, amount-length outstanding)
 
-pub cell-line-fits : (figure : CellFigure) (millionths : ℤ) (column : ℕ) → column ≤ 35 → length (cell-line figure millionths column) ≤ 512
+pub cell-line-fits : (figure : CellFigure) (millionths : ℤ) (column : ℕ) → column ≤ 35 → length (cell-line figure millionths column) ≤ 511
 unfolding cell-line
 cell-line-fits figure millionths column narrow =
     omega (
@@ -81,3 +84,13 @@ cell-line-fits figure millionths column narrow =
       entry-length column (amount-text millionths),
       amount-length millionths,
     )
+
+-- ---- Lines with numbers in their places
+
+pub cell-title-fits : (i k : ℤ) → length (cell-title i k) ≤ 511
+unfolding places
+cell-title-fits i k = filled-fits 511 _ _ refl
+
+pub accepted-line-fits : (years cut : ℤ) → length (accepted-line years cut) ≤ 511
+unfolding places
+accepted-line-fits years cut = filled-fits 511 _ _ refl
