@@ -19,10 +19,10 @@ use Rattle.questions.specs.declared.inputs.AnswerLists.the-variants.{OfLengths}
 use Rattle.verdicts.specs.Verdicts.{verdict-of}
 use Rattle.triangle.specs.declared.reading.Reading.{Reading}
 use Rattle.triangle.specs.Reading.{ReadingOf}
-use Rattle.calls.specs.ProjectedRows.{RowsProjected}
+use Rattle.projected_rows.specs.ProjectedRows.{RowsProjected}
 use Rattle.calls.specs.Answers.{answer-of, Filled}
-use Rattle.calls.proofs.OfTriangle.{question-9-is, future-is, reserves-is}
-use Rattle.calls.proofs.ReadTriangles.{was-read, with-question-9}
+use Rattle.projected_rows.proofs.OfTriangle.{question-9-is, future-is, reserves-is}
+use Rattle.projected_rows.proofs.ReadTriangles.{was-read, with-question-9}
 
 module _ {t : Triangle} {future-before reserves-before : List ℤ} where
   module _ {r : Reading} (e : ReadingOf t (OfLengths (length future-before) (length reserves-before)) r) where

@@ -1,11 +1,11 @@
 -- All rows, projected one after another: both lists fill from the left.
-use mathlib.Core.Path.{_≡_, refl, sym, ap, ap₂, _∙_, subst}
+use mathlib.Core.Path.{_≡_, refl, sym, ap, _∙_, subst}
 use mathlib.Core.List.{List, [], _∷_, _++_}
 use Prim.Native.Nat.{ℕ, suc, _+_, _*_, _-_, _≤_, _<_}
 use native.Mathlib.Numerals.{add-one}
 use native.Mathlib.Omega.{arith}
-use lib.IntN.{ℤ, pos, _*ℤ_}
-use lib.ListN.{length, getD, take}
+use lib.IntN.{ℤ, _*ℤ_}
+use lib.ListN.{length, take}
 use lib.Seq.{sets, length-sets, take-all}
 use Rattle.method.specs.Limits.{one-unit}
 use Rattle.method.specs.Counting.{list-to}
@@ -14,12 +14,13 @@ use Rattle.method.specs.Verdicts.{Place, accepted, refused}
 use Rattle.method.specs.AnswerPlaces.{unseen-before}
 use Rattle.method.proofs.Counting.{up-to-none, up-to-more}
 use Rattle.method.proofs.FirstRefusal.{not-both, PassedSoFar, none-asked, next-accepted, next-refused, all-accepted}
-use Rattle.method.proofs.Positions.{entry-at, unseen-before-more, unseen-before-mono, unseen-cells}
+use Rattle.method.proofs.Positions.{unseen-before-more, unseen-before-mono, unseen-cells}
 use Rattle.triangle.specs.declared.ratios.Sums.{Sums}
 use Rattle.verdicts.specs.Verdicts.{verdict-of}
-use Rattle.calls.specs.declared.projected_rows.ProjectedRow.{ProjectedRow}
-use Rattle.calls.specs.ProjectedRows.{observed-of, verdict-of-row, figures-of-row, reserves-of-row, figures-verdict, row-figures, row-reserves, reserves-answered, RowInput, RowProjected, Projectable, RowsProjected}
-use Rattle.calls.proofs.RowLoop.{sets-filled, figures-in-place, row-list-length}
+use Rattle.projected_rows.specs.declared.ProjectedRow.{ProjectedRow}
+use Rattle.projected_rows.specs.ProjectedRows.{verdict-of-row, figures-of-row, reserves-of-row, figures-verdict, row-figures, row-reserves, reserves-answered, RowProjected, Projectable, RowsProjected}
+use Rattle.projected_rows.proofs.RowLoop.{sets-filled, figures-in-place, row-list-length}
+use Rattle.projected_rows.proofs.RowAtHand.{units, of-row, verdict-of-row-is}
 
 -- after r rows
 pub record RowsSoFar (n : ℕ) (ratios : List Sums) (outstandings future reserves : List ℤ) (place r : ℕ) : Type 0 where
@@ -49,28 +50,6 @@ module _ {n : ℕ} {ratios : List Sums} {outstandings : List ℤ} where
     future-filled = sym (up-to-none _++_ [] _);
     reserves-filled = sym (up-to-none _++_ [] _);
   }
-
-  -- ---- The row at hand, r + 1
-
-  module _ (ok : Projectable n ratios outstandings) (r : ℕ) (more : r < n) where
-    abbrev units : ℤ
-    units = getD outstandings r (pos 0)
-
-    pub row-input : RowInput n ratios (r + 1) units
-    row-input = record {
-      row = record { first = omega arith; last = omega arith; most = ok .most; year = ok .year };
-      observed-nonneg = ok .outstanding r more .0;
-      observed-most = ok .outstanding r more .1;
-    }
-
-    -- by the definitions of all rows
-    of-row : {A : Type 0} (f : ℕ → ℤ → A) → f (r + 1) (units *ℤ one-unit) ≡ f (suc r) (observed-of n ratios outstandings (suc r))
-    of-row f = ap₂ f (add-one r) (sym (ap (λ (x : ℤ). x *ℤ one-unit) (entry-at outstandings r)))
-
-    pub verdict-of-row-is : {start : ℕ} {before after : List ℤ} {row : ProjectedRow} → RowProjected n ratios (r + 1) (units *ℤ one-unit) start before row after
-        → verdict-of-row n ratios outstandings (r + 1) ≡ verdict-of (row .verdict)
-    unfolding verdict-of-row
-    verdict-of-row-is p = ap (verdict-of-row n ratios outstandings) (add-one r) ∙ sym (of-row (figures-verdict n ratios)) ∙ sym (p .verdict-is)
 
   -- ---- Both lists
 

@@ -10,7 +10,7 @@ ghost use Rattle.method.specs.Demand3.{Demand-3};
 ghost use Rattle.verdicts.specs.Verdicts.{verdict-of};
 ghost use Rattle.questions.specs.Inputs.{triangle-of};
 ghost use Rattle.calls.specs.Answers.{answer-of, Filled};
-use crate::projected_rows::project;
+use crate::all_rows::project;
 use projection::lists::clear;
 use questions::inputs::AnswerLists;
 use triangle::reading::read;

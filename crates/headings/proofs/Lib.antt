@@ -1,5 +1,4 @@
--- The laws of headings: the search for a heading, the count of rows, and the checks of a line.
+-- The laws of headings: the search for a heading, and the count of rows.
 pub mod HeadingSearch
 pub mod RowCounts
 pub mod RowLines
-pub mod LineChecks

@@ -1,3 +1,2 @@
--- What the headings of a triangle's text say, where they stand, and their first fault.
+-- What the headings of a triangle's text say, and where they stand.
 pub mod Places
-pub mod Faults

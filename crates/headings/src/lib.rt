@@ -1,3 +1,2 @@
-// The headings of a triangle's text: where a heading stands and what it says, and the first fault of the headings.
-pub mod faults;
+// The headings of a triangle's text: where a heading stands, and what it says.
 pub mod places;

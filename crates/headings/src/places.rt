@@ -94,7 +94,7 @@ pub fn is_cumulated(text: &[u8], separator: u8, heading: LineKind) -> bool
     says_cumulated(word(first_line(&text[start..]), separator, 1))
 }
 
-pub(crate) fn says_cumulated(word: &[u8]) -> bool
+pub fn says_cumulated(word: &[u8]) -> bool
     ensures { λ r. ⌜ r ≡ says-cumulated (now (word .entry)) ⌝ }
 {
     is_either(word, b"cumulated", b"cumulative")

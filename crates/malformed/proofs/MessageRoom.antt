@@ -8,12 +8,12 @@ use borrow.Author.Tests.{leb-true}
 use lib.Dec.{leb, eqb}
 use lib.ListN.{length, take, length-append, length-map, length-take}
 use Rattle.figures.specs.Bytes.{bytes}
-use Rattle.headings.specs.declared.faults.HeadingFault.{HeadingFault}
-use Rattle.headings.specs.declared.faults.HeadingFault.the-variants.{HeadingBeforeRow, FiguresInRow, KnownHeading, HeadingOnce, CumulatedOrIncremental, NothingAfterHeading, NumberAfterCut, YearsAfterCell}
+use Rattle.heading_faults.specs.declared.HeadingFault.{HeadingFault}
+use Rattle.heading_faults.specs.declared.HeadingFault.the-variants.{HeadingBeforeRow, FiguresInRow, KnownHeading, HeadingOnce, CumulatedOrIncremental, NothingAfterHeading, NumberAfterCut, YearsAfterCell}
 use Rattle.row_text.specs.declared.entries.CellFault.{CellFault}
 use Rattle.row_text.specs.declared.entries.CellFault.the-variants.{NoFurtherOpening, NumberForBlank, WholeNumber, SixtyFourBits, DifferenceOfSixtyFourBits, RowEnd}
-use Rattle.triangle_text.specs.declared.faults.Expected.{Expected}
-use Rattle.triangle_text.specs.declared.faults.Expected.the-variants.{InHeading, InCell, Incremental, NoFurtherRow}
+use Rattle.blocks.specs.declared.faults.Expected.{Expected}
+use Rattle.blocks.specs.declared.faults.Expected.the-variants.{InHeading, InCell, Incremental, NoFurtherRow}
 use Rattle.printed.specs.Filling.{places}
 use Rattle.printed.proofs.Room.{one-of-two, filled-fits}
 use Rattle.met_text.specs.ShownText.{shown-byte, shown-text}

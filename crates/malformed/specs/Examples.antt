@@ -3,10 +3,10 @@
 use mathlib.Core.List.{List, [], _∷_, _++_}
 use Rattle.figures.specs.Bytes.{bytes}
 use Rattle.text.specs.Bytes.{tab, carriage-return}
-use Rattle.headings.specs.declared.faults.HeadingFault.the-variants.{CumulatedOrIncremental}
+use Rattle.heading_faults.specs.declared.HeadingFault.the-variants.{CumulatedOrIncremental}
 use Rattle.row_text.specs.declared.entries.CellFault.the-variants.{NumberForBlank, WholeNumber}
-use Rattle.triangle_text.specs.declared.faults.Expected.{Expected}
-use Rattle.triangle_text.specs.declared.faults.Expected.the-variants.{InHeading, InCell}
+use Rattle.blocks.specs.declared.faults.Expected.{Expected}
+use Rattle.blocks.specs.declared.faults.Expected.the-variants.{InHeading, InCell}
 use Rattle.printed.specs.WorkedLines.{Printed, _shows_, all-of}
 use Rattle.malformed.specs.Messages.{fault-line, advice}
 

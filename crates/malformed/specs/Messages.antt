@@ -8,12 +8,12 @@ use lib.ListN.{length, getD}
 use Rattle.figures.specs.Bytes.{bytes}
 use Rattle.text.specs.Bytes.{space, number-sign, is-letter}
 use Rattle.text.specs.Search.{has-byte}
-use Rattle.headings.specs.declared.faults.HeadingFault.{HeadingFault}
-use Rattle.headings.specs.declared.faults.HeadingFault.the-variants.{HeadingBeforeRow, FiguresInRow, KnownHeading, HeadingOnce, CumulatedOrIncremental, NothingAfterHeading, NumberAfterCut, YearsAfterCell}
+use Rattle.heading_faults.specs.declared.HeadingFault.{HeadingFault}
+use Rattle.heading_faults.specs.declared.HeadingFault.the-variants.{HeadingBeforeRow, FiguresInRow, KnownHeading, HeadingOnce, CumulatedOrIncremental, NothingAfterHeading, NumberAfterCut, YearsAfterCell}
 use Rattle.row_text.specs.declared.entries.CellFault.{CellFault}
 use Rattle.row_text.specs.declared.entries.CellFault.the-variants.{NoFurtherOpening, NumberForBlank, WholeNumber, SixtyFourBits, DifferenceOfSixtyFourBits, RowEnd}
-use Rattle.triangle_text.specs.declared.faults.Expected.{Expected}
-use Rattle.triangle_text.specs.declared.faults.Expected.the-variants.{InHeading, InCell, Incremental, NoFurtherRow}
+use Rattle.blocks.specs.declared.faults.Expected.{Expected}
+use Rattle.blocks.specs.declared.faults.Expected.the-variants.{InHeading, InCell, Incremental, NoFurtherRow}
 use Rattle.printed.specs.Counts.{as-number}
 use Rattle.printed.specs.Filling.{filled}
 use Rattle.met_text.specs.ShownText.{shown-text}

@@ -4,7 +4,7 @@ ghost use lib.ListN.{getD};
 ghost use Rattle.printed.specs.Line.{LineIs};
 ghost use Rattle.text.specs.Search.{has-byte};
 ghost use Rattle.malformed.specs.Messages as meaning;
-use headings::faults::HeadingFault;
+use heading_faults::HeadingFault;
 use printed::line::Line;
 use printed::line::empty;
 use printed::line::line_of;

@@ -3,7 +3,8 @@ ghost use Rattle.printed.specs.Line.{LineIs, After};
 ghost use Rattle.malformed.specs.Messages as meaning;
 use crate::advice::advice_of_cell;
 use crate::advice::advice_of_heading;
-use headings::faults::HeadingFault;
+use blocks::faults::Expected;
+use heading_faults::HeadingFault;
 use met_text::shown_text::with_shown;
 use printed::counts::signed;
 use printed::filling::filled_1;
@@ -13,7 +14,6 @@ use printed::line::empty;
 use printed::line::line_of;
 use printed::line::with_text;
 use row_text::entries::CellFault;
-use triangle_text::faults::Expected;
 
 // The first line. The cell is 0 where the whole line is meant.
 pub fn fault_line(line: usize, cell: usize, expected: Expected, met: &[u8]) -> Line

@@ -1,10 +1,10 @@
 // What is printed of a text that is malformed.
 use crate::printing::print_line;
 use crate::printing::print_two;
+use blocks::faults::Expected;
 use malformed::messages::advice;
 use malformed::messages::fault_line;
 use met_text::met::met_at;
-use triangle_text::faults::Expected;
 use triangle_text::reading::without_mark;
 
 pub(crate) fn print_fault(text: &[u8], line: usize, cell: usize, expected: Expected) -> bool {

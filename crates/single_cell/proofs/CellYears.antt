@@ -22,7 +22,7 @@ use Rattle.projection.specs.declared.year.Movement.{Movement}
 use Rattle.projection.specs.declared.year.ProjectedYear.the-variants.{Within, TooLarge}
 use Rattle.projection.specs.Year.{ProjectedYearInput, year-or-too-large, movement-of}
 use Rattle.projection.proofs.Years.{within-is, too-large-year}
-use Rattle.calls.specs.ProjectedRows.{sums-at, outstanding-after, projected-year}
+use Rattle.projected_rows.specs.ProjectedRows.{sums-at, outstanding-after, projected-year}
 use Rattle.single_cell.specs.Cells.{CellInput, outstanding-of, movement-of-year}
 
 pub later-than : {last year : ℕ} → last ≤ year → (year ≡ last → ⊥) → last < year

@@ -20,9 +20,9 @@ use Rattle.method.proofs.QuestionFacts.{UnseenCell}
 use Rattle.method.proofs.Positions.{entry-at}
 use Rattle.triangle.specs.declared.ratios.Sums.{Sums}
 use Rattle.triangle.specs.Ratios.{DevelopmentOf}
-use Rattle.calls.specs.ProjectedRows.{projected-year, row-question, figures-verdict, observed-of, verdict-of-row, RowInput, Projectable}
-use Rattle.calls.proofs.RowLoop.{RowInMillionths, in-millionths}
-use Rattle.calls.proofs.OfTriangle.{year-is}
+use Rattle.projected_rows.specs.ProjectedRows.{projected-year, row-question, figures-verdict, observed-of, verdict-of-row, RowInput, Projectable}
+use Rattle.projected_rows.proofs.RowLoop.{RowInMillionths, in-millionths}
+use Rattle.projected_rows.proofs.OfTriangle.{year-is}
 use Rattle.single_cell.specs.Cells.{CellInput, cell-movement, CellAccepted}
 use Rattle.single_cell.specs.Answers.{accepted-cell, refused-cell}
 

@@ -11,7 +11,7 @@ use Rattle.method.specs.Verdicts.{accepted}
 use Rattle.method.specs.Questions.{figures-in-range}
 use Rattle.triangle.specs.declared.ratios.Sums.{Sums}
 use Rattle.method.specs.SumLimits.{SumsInRange}
-use Rattle.calls.specs.ProjectedRows.{sums-at, outstanding-after, projected-year, observed-of, verdict-of-row, Projectable}
+use Rattle.projected_rows.specs.ProjectedRows.{sums-at, outstanding-after, projected-year, observed-of, verdict-of-row, Projectable}
 
 -- A row with its last observed year, its outstanding then, in millionths, and a later year up to which its figures passed question 9.
 pub record CellInput (ratios : List Sums) (last : ℕ) (observed : ℤ) (year : ℕ) : Type 0 where

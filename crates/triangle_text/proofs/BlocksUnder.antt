@@ -13,14 +13,14 @@ use Rattle.headings.specs.Places.{line-number, is-cumulated, HeadingFound}
 use Rattle.line_kinds.specs.declared.kinds.LineKind.{LineKind}
 use Rattle.line_kinds.specs.declared.kinds.LineKind as kinds
 use Rattle.headings.specs.declared.places.Heading.{Heading}
-use Rattle.triangle_text.specs.Blocks.{numbers, block-from, default-weights, BlockReadAs}
+use Rattle.blocks.specs.Blocks.{numbers, block-from, default-weights, BlockReadAs}
 use Rattle.triangle_text.specs.Reading.{block-under, triangle-under, weights-under}
-use Rattle.triangle_text.specs.declared.faults.Expected.the-variants.{Incremental}
-use Rattle.triangle_text.specs.declared.faults.Fault.the-variants.{Nothing, At}
-use Rattle.triangle_text.specs.declared.blocks.Shape.{Shape}
-use Rattle.triangle_text.specs.declared.blocks.Shape.the-variants.{Triangle}
-use Rattle.triangle_text.specs.declared.blocks.BlockRead.{BlockRead}
-use Rattle.triangle_text.proofs.BlocksRead.{fault-read, numbers-read}
+use Rattle.blocks.specs.declared.faults.Expected.the-variants.{Incremental}
+use Rattle.blocks.specs.declared.faults.Fault.the-variants.{Nothing, At}
+use Rattle.blocks.specs.declared.lines.Shape.{Shape}
+use Rattle.blocks.specs.declared.lines.Shape.the-variants.{Triangle}
+use Rattle.blocks.specs.declared.lines.BlockRead.{BlockRead}
+use Rattle.blocks.proofs.BlocksRead.{fault-read, numbers-read}
 
 -- the lines that come after the heading that was found
 pub under-heading : {text : List ℕ} {separator : ℕ} {heading : LineKind} {found : Heading} → HeadingFound text separator heading found

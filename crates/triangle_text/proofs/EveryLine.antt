@@ -11,15 +11,15 @@ use Rattle.text.specs.Lines.{lines, others-of}
 use Rattle.line_parts.specs.Cells.{separator-of}
 use Rattle.line_kinds.specs.Kinds.{kind-of, is-heading, has-rows, same-kind}
 use Rattle.headings.specs.Places.{from-heading, number-after-lines, line-number, left-after, row-line-after, row-line}
-use Rattle.headings.specs.Faults.{check, line-check, under-after, or-later, fault-after, heading-fault}
+use Rattle.heading_faults.specs.Faults.{check, line-check, under-after, or-later, fault-after, heading-fault}
 use Rattle.line_kinds.specs.declared.kinds.LineKind.{LineKind}
 use Rattle.line_kinds.specs.declared.kinds.LineKind.the-variants.{Blank, Separators, Payments, Adjustments, Weights, Openings, Cut, Cell, Row, Unknown}
-use Rattle.headings.specs.declared.faults.Checked.{Checked}
-use Rattle.headings.specs.declared.faults.Checked.the-variants.{Right, Wrong}
-use Rattle.headings.specs.declared.faults.FirstFault.{FirstFault}
-use Rattle.headings.specs.declared.faults.FirstFault.the-variants.{Nothing, At}
-use Rattle.headings.specs.declared.faults.HeadingFault.{HeadingFault}
-use Rattle.headings.specs.declared.faults.HeadingFault.the-variants.{HeadingOnce}
+use Rattle.heading_faults.specs.declared.Checked.{Checked}
+use Rattle.heading_faults.specs.declared.Checked.the-variants.{Right, Wrong}
+use Rattle.heading_faults.specs.declared.FirstFault.{FirstFault}
+use Rattle.heading_faults.specs.declared.FirstFault.the-variants.{Nothing, At}
+use Rattle.heading_faults.specs.declared.HeadingFault.{HeadingFault}
+use Rattle.heading_faults.specs.declared.HeadingFault.the-variants.{HeadingOnce}
 use Rattle.triangle_text.specs.declared.reading.Asked.{Asked}
 use Rattle.triangle_text.specs.Reading.{Lists, Reading, triangle, unless-fault, reading-of, without-mark, reading}
 use Rattle.triangle_text.specs.EveryLine.{RowOf, LineRead, LinesRead, EveryLineRead, Every-line-of-every-text}

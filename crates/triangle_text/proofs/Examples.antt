@@ -9,10 +9,10 @@ use Rattle.line_parts.specs.Cells.{separator-in, without-last-spaces, trimmed}
 use Rattle.line_parts.specs.Words.{word, is-word}
 use Rattle.line_kinds.specs.Kinds.{is-either, heading-of, begins-heading, kind-of}
 use Rattle.headings.specs.Places.{from-heading, number-after-lines, rows-in, number-after, is-cumulated}
-use Rattle.headings.specs.Faults.{is-number, is-no-word, says-how, amount-words, cut-words, cell-words, no-words, fault-after}
+use Rattle.heading_faults.specs.Faults.{is-number, is-no-word, says-how, amount-words, cut-words, cell-words, no-words, fault-after}
 use Rattle.row_text.specs.Rows.{occurrences, numbers-from, openings-from}
 use Rattle.method.specs.Tests.{years-in-range, cut-in-range}
-use Rattle.triangle_text.specs.Blocks.{block-from, default-row, default-from}
+use Rattle.blocks.specs.Blocks.{block-from, default-row, default-from}
 use Rattle.triangle_text.specs.Reading.{lists-wanted, triangle-under, weights-under, asked-in, lists-in, with-headings, reading-of, without-mark, reading}
 use Rattle.triangle_text.specs.Examples.{Texts-hold}
 

@@ -15,9 +15,9 @@ use Rattle.integers.proofs.LinearFacts.{fits-by}
 use Rattle.text.specs.Bytes.{longest-text}
 use Rattle.text.specs.Lines.{lines}
 use Rattle.line_parts.specs.Cells.{separator-of}
-use Rattle.headings.specs.Faults.{heading-fault}
-use Rattle.headings.specs.declared.faults.HeadingFault.{HeadingFault}
-use Rattle.headings.specs.declared.faults.FirstFault as heading
+use Rattle.heading_faults.specs.Faults.{heading-fault}
+use Rattle.heading_faults.specs.declared.HeadingFault.{HeadingFault}
+use Rattle.heading_faults.specs.declared.FirstFault as heading
 use Rattle.method.specs.Limits.{most-accident-years}
 use Rattle.method.specs.Triangle.{amounts-length}
 use Rattle.method.specs.Verdicts.{ask}
@@ -25,13 +25,13 @@ use Rattle.method.specs.Tests.{years-in-range, cut-in-range}
 use Rattle.method.specs.Questions.{question-1, question-2}
 use Rattle.method.proofs.Tests.{and-true}
 use Rattle.method.proofs.QuestionFacts.{YearsInRange, CutInRange, years-accepted, cut-accepted}
-use Rattle.triangle_text.specs.Blocks.{Block, numbers, faulty, BlockReadAs}
-use Rattle.triangle_text.specs.Blocks as block
+use Rattle.blocks.specs.Blocks.{Block, numbers, faulty, BlockReadAs}
+use Rattle.blocks.specs.Blocks as block
 use Rattle.triangle_text.specs.Reading.{lists-wanted, Lists, Reading, triangle, malformed, then-read, first-fault, fault-of, no-lists-read, asked-in, lists-in, with-headings, reading-of, without-mark, reading, TextReadAs}
-use Rattle.triangle_text.specs.declared.faults.Expected.the-variants.{InHeading}
-use Rattle.triangle_text.specs.declared.faults.Fault.{Fault}
-use Rattle.triangle_text.specs.declared.faults.Fault.the-variants.{Nothing, At}
-use Rattle.triangle_text.specs.declared.blocks.BlockRead.{BlockRead}
+use Rattle.blocks.specs.declared.faults.Expected.the-variants.{InHeading}
+use Rattle.blocks.specs.declared.faults.Fault.{Fault}
+use Rattle.blocks.specs.declared.faults.Fault.the-variants.{Nothing, At}
+use Rattle.blocks.specs.declared.lines.BlockRead.{BlockRead}
 use Rattle.triangle_text.specs.declared.reading.Asked.{Asked}
 use Rattle.triangle_text.specs.declared.reading.TextRead.{TextRead}
 

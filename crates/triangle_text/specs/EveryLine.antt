@@ -8,7 +8,7 @@ use Rattle.text.specs.Lines.{lines}
 use Rattle.line_parts.specs.Cells.{separator-of}
 use Rattle.line_kinds.specs.Kinds.{kind-of, has-rows}
 use Rattle.headings.specs.Places.{line-number, row-line}
-use Rattle.headings.specs.Faults.{under-after}
+use Rattle.heading_faults.specs.Faults.{under-after}
 use Rattle.line_kinds.specs.declared.kinds.LineKind.{LineKind}
 use Rattle.line_kinds.specs.declared.kinds.LineKind.the-variants.{Blank, Separators, Payments, Adjustments, Weights, Openings, Cut, Cell, Row, Unknown}
 use Rattle.triangle_text.specs.declared.reading.Asked.{Asked}

@@ -11,13 +11,13 @@ use lib.IntN.{ℤ, pos}
 use lib.ListN.{set, take}
 use Rattle.figures.specs.Bytes.{bytes}
 use Rattle.text.specs.Bytes.{tab, line-feed, carriage-return, semicolon}
-use Rattle.headings.specs.declared.faults.HeadingFault.the-variants.{HeadingBeforeRow, FiguresInRow, KnownHeading, HeadingOnce, CumulatedOrIncremental, NothingAfterHeading, NumberAfterCut, YearsAfterCell}
+use Rattle.heading_faults.specs.declared.HeadingFault.the-variants.{HeadingBeforeRow, FiguresInRow, KnownHeading, HeadingOnce, CumulatedOrIncremental, NothingAfterHeading, NumberAfterCut, YearsAfterCell}
 use Rattle.row_text.specs.declared.entries.CellFault.the-variants.{NumberForBlank, WholeNumber, SixtyFourBits, DifferenceOfSixtyFourBits, RowEnd, NoFurtherOpening}
 use Rattle.method.specs.Triangle.{Triangle}
 use Rattle.method.specs.Examples.{minus, E1, E4, E7}
 use Rattle.triangle_text.specs.Reading.{Lists, Reading, triangle, malformed, reading}
 use Rattle.triangle_text.specs.declared.reading.Asked.{Asked}
-use Rattle.triangle_text.specs.declared.faults.Expected.the-variants.{InHeading, InCell, Incremental, NoFurtherRow}
+use Rattle.blocks.specs.declared.faults.Expected.the-variants.{InHeading, InCell, Incremental, NoFurtherRow}
 
 -- ---- How a row is written
 

@@ -9,21 +9,21 @@ use lib.ListN.{length, getD, take, drop}
 use Rattle.text.specs.Lines.{lines}
 use Rattle.line_parts.specs.Cells.{separator-of}
 use Rattle.headings.specs.Places.{line-number, lines-under, rows-in, number-after, is-cumulated}
-use Rattle.headings.specs.Faults.{heading-fault}
+use Rattle.heading_faults.specs.Faults.{heading-fault}
 use Rattle.line_kinds.specs.declared.kinds.LineKind.{LineKind}
 use Rattle.line_kinds.specs.declared.kinds.LineKind.the-variants.{Payments, Adjustments, Weights, Openings, Cut, Cell}
-use Rattle.headings.specs.declared.faults.FirstFault.{FirstFault}
-use Rattle.headings.specs.declared.faults.FirstFault as heading
+use Rattle.heading_faults.specs.declared.FirstFault.{FirstFault}
+use Rattle.heading_faults.specs.declared.FirstFault as heading
 use Rattle.method.specs.Limits.{most-accident-years}
 use Rattle.method.specs.Triangle.{amounts-length, weights-length}
 use Rattle.method.specs.Tests.{years-in-range, cut-in-range}
-use Rattle.triangle_text.specs.Blocks.{Block, numbers, faulty, block-from, default-weights}
-use Rattle.triangle_text.specs.declared.faults.Expected.{Expected}
-use Rattle.triangle_text.specs.declared.faults.Expected.the-variants.{InHeading, Incremental}
-use Rattle.triangle_text.specs.declared.faults.Fault.{Fault}
-use Rattle.triangle_text.specs.declared.faults.Fault.the-variants.{Nothing, At}
-use Rattle.triangle_text.specs.declared.blocks.Shape.{Shape}
-use Rattle.triangle_text.specs.declared.blocks.Shape as shape
+use Rattle.blocks.specs.Blocks.{Block, numbers, faulty, block-from, default-weights}
+use Rattle.blocks.specs.declared.faults.Expected.{Expected}
+use Rattle.blocks.specs.declared.faults.Expected.the-variants.{InHeading, Incremental}
+use Rattle.blocks.specs.declared.faults.Fault.{Fault}
+use Rattle.blocks.specs.declared.faults.Fault.the-variants.{Nothing, At}
+use Rattle.blocks.specs.declared.lines.Shape.{Shape}
+use Rattle.blocks.specs.declared.lines.Shape as shape
 use Rattle.triangle_text.specs.declared.reading.Asked.{Asked}
 use Rattle.triangle_text.specs.declared.reading.TextRead.{TextRead}
 

@@ -1,5 +1,2 @@
 // The text of a triangle, read into the lists that a call lends. docs/FORMAT.md says what a text is.
-pub mod blocks;
-pub mod faults;
 pub mod reading;
-pub mod weights;

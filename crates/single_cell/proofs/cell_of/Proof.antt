@@ -9,8 +9,8 @@ use Rattle.integers.proofs.MachineArithmetic.{Held, held}
 use Rattle.method.specs.Verdicts.{accepted}
 use Rattle.method.specs.Answers.{CellAnswer}
 use Rattle.projection.specs.declared.year.Movement.{Movement}
-use Rattle.calls.specs.ProjectedRows.{observed-of}
-use Rattle.calls.proofs.RowLoop.{units-small}
+use Rattle.projected_rows.specs.ProjectedRows.{observed-of}
+use Rattle.projected_rows.proofs.RowLoop.{units-small}
 use Rattle.single_cell.proofs.WholeCells.{row-of-cell, in-units, later-year, cell-input}
 use Rattle.single_cell.proofs.cell_of.Statement.{statement}
 use Rattle.single_cell.proofs.cell_of.Tie as tie

@@ -8,9 +8,9 @@ use lib.ListN.{length, getD}
 use Rattle.integers.proofs.MachineArithmetic.{Held, held}
 use Rattle.method.proofs.FirstRefusal.{PassedSoFar, none-asked, next-accepted, next-refused, all-accepted}
 use Rattle.verdicts.specs.Verdicts.{verdict-of}
-use Rattle.calls.specs.ProjectedRows.{verdict-of-row}
-use Rattle.calls.proofs.RowLoop.{row-list-length}
-use Rattle.calls.proofs.RowsLoop.{row-input, verdict-of-row-is}
+use Rattle.projected_rows.specs.ProjectedRows.{verdict-of-row}
+use Rattle.projected_rows.proofs.RowLoop.{row-list-length}
+use Rattle.projected_rows.proofs.RowAtHand.{row-input, verdict-of-row-is}
 use Rattle.single_cell.proofs.question_9.Statement.{statement}
 use Rattle.single_cell.proofs.question_9.Tie as tie
 

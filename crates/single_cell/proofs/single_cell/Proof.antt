@@ -15,8 +15,8 @@ use Rattle.verdicts.proofs.Counts.{count-fits}
 use Rattle.questions.specs.declared.inputs.AnswerLists.the-variants.{NotGiven}
 use Rattle.questions.specs.Inputs.{triangle-of}
 use Rattle.triangle.specs.Reading.{ReadingOf}
-use Rattle.calls.proofs.OfTriangle.{question-9-is}
-use Rattle.calls.proofs.ReadTriangles.{observed, was-read, can-be-projected, with-question-9, question-1-passed}
+use Rattle.projected_rows.proofs.OfTriangle.{question-9-is}
+use Rattle.projected_rows.proofs.ReadTriangles.{observed, was-read, can-be-projected, with-question-9, question-1-passed}
 use Rattle.single_cell.specs.Cells.{CellAccepted}
 use Rattle.single_cell.proofs.WholeCells.{cell-accepted, movement-in-triangle, refused-whole, accepted-whole, with-demands}
 use Rattle.single_cell.proofs.single_cell.Statement.{statement}

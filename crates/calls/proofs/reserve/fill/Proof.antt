@@ -10,7 +10,7 @@ use Rattle.verdicts.proofs.Counts.{count-fits}
 use Rattle.questions.specs.declared.inputs.AnswerLists.the-variants.{OfLengths}
 use Rattle.questions.specs.Inputs.{triangle-of}
 use Rattle.triangle.specs.Reading.{ReadingOf}
-use Rattle.calls.proofs.ReadTriangles.{observed, can-be-projected, lists-whole}
+use Rattle.projected_rows.proofs.ReadTriangles.{observed, can-be-projected, lists-whole}
 use Rattle.calls.proofs.BothLists.{refused-before, projected}
 use Rattle.calls.proofs.reserve.fill.Statement.{statement}
 use Rattle.calls.proofs.reserve.fill.Tie as tie

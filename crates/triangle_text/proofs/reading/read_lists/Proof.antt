@@ -14,7 +14,7 @@ use Rattle.method.specs.Limits.{most-accident-years}
 use Rattle.method.specs.Triangle.{amounts-length, weights-length}
 use Rattle.method.proofs.QuestionFacts.{YearsInRange, CutInRange}
 use Rattle.verdicts.proofs.Counts.{count-fits}
-use Rattle.triangle_text.specs.Blocks.{BlockReadAs}
+use Rattle.blocks.specs.Blocks.{BlockReadAs}
 use Rattle.triangle_text.specs.Reading.{triangle-under, weights-under, openings-under, lists-in, first-fault}
 use Rattle.triangle_text.proofs.ListsRead.{wanted, counted-fits, amounts-fit, blocks-read}
 use Rattle.triangle_text.proofs.reading.read_lists.Statement.{statement}

@@ -5,8 +5,8 @@ use Prim.Native.Nat.{ℕ}
 use borrow.Author.Needs.{needs}
 use Rattle.integers.proofs.MachineArithmetic.{held}
 use Rattle.text.specs.Lines.{lines}
-use Rattle.headings.specs.Faults.{heading-fault}
-use Rattle.headings.specs.declared.faults.FirstFault.the-variants.{Nothing}
+use Rattle.heading_faults.specs.Faults.{heading-fault}
+use Rattle.heading_faults.specs.declared.FirstFault.the-variants.{Nothing}
 use Rattle.triangle_text.specs.Reading.{lists-wanted, no-lists-read, of-heading}
 use Rattle.triangle_text.proofs.ListsRead.{text-short, faulty-headings, no-lists-wanted, lists-read}
 use Rattle.triangle_text.proofs.reading.read_text.Statement.{statement}

@@ -1,0 +1,140 @@
+-- Weights where a text gives none, filled in from the left.
+use mathlib.Core.Path.{_≡_, refl, sym, ap, ap₂, _∙_}
+use mathlib.Core.List.{List, [], _∷_, _++_, append-assoc, append-nil}
+use Prim.Native.Nat.{ℕ, suc, _+_, _-_, _≤_, _<_}
+use native.Mathlib.Nat.{suc-mul, mul-suc}
+use native.Mathlib.Numerals.{add-one}
+use native.Mathlib.Omega.{arith}
+use lib.IntN.{ℤ, pos}
+use lib.ListN.{length, take, drop, set, length-set}
+use lib.Seq.{take-suc-set, take-add, take-all, length-take-le}
+use Rattle.method.specs.Triangle.{amounts-length}
+use Rattle.blocks.specs.Blocks.{default-row, default-from, default-weights}
+use Rattle.blocks.proofs.ListParts.{PartBack}
+
+-- ---- One row
+
+module _ (missing cells k : ℕ) (inside : k < cells) where
+  pub next-missing : k < missing → default-row (missing - k) (cells - k) ≡ pos 0 ∷ default-row (missing - (k + 1)) (cells - (k + 1))
+  unfolding default-row
+  next-missing h =
+      let more : missing - k ≡ suc (missing - (k + 1)) = omega arith in
+      let left : cells - k ≡ suc (cells - (k + 1)) = omega arith in
+      rw (more, left) refl
+
+  pub next-known : missing ≤ k → default-row (missing - k) (cells - k) ≡ pos 1 ∷ default-row (missing - (k + 1)) (cells - (k + 1))
+  unfolding default-row
+  next-known h =
+      let none : missing - k ≡ 0 = omega arith in
+      let still-none : missing - (k + 1) ≡ 0 = omega arith in
+      let left : cells - k ≡ suc (cells - (k + 1)) = omega arith in
+      rw (none, still-none, left) refl
+
+-- the first k weights of a row stand in a list
+pub record RowFilled (missing : ℕ) (row₀ row : List ℤ) (k : ℕ) : Type 0 where
+  pub same-length : length row ≡ length row₀
+  pub within : k ≤ length row₀
+  pub goes-on : take k row ++ default-row (missing - k) (length row₀ - k) ≡ default-row missing (length row₀)
+
+pub none-filled : (missing : ℕ) (row₀ : List ℤ) → RowFilled missing row₀ row₀ 0
+none-filled missing row₀ =
+    let a : missing - 0 ≡ missing = omega arith in
+    let b : length row₀ - 0 ≡ length row₀ = omega arith in
+    record { same-length = refl; within = omega arith; goes-on = rw (a, b) refl }
+
+pub one-more-filled : {missing : ℕ} {row₀ row : List ℤ} {k : ℕ} (weight : ℤ) → RowFilled missing row₀ row k → k < length row₀
+    → default-row (missing - k) (length row₀ - k) ≡ weight ∷ default-row (missing - (k + 1)) (length row₀ - (k + 1))
+    → RowFilled missing row₀ (set row k weight) (k + 1)
+one-more-filled {missing} {row₀} {row} {k} weight so-far inside next = record {
+  same-length = length-set row k weight ∙ so-far .same-length;
+  within = omega arith;
+  goes-on =
+      ap (λ front. front ++ default-row (missing - (k + 1)) (length row₀ - (k + 1)))
+      (ap (λ n. take n (set row k weight)) (add-one k) ∙ take-suc-set row k weight (omega (arith, so-far .same-length)))
+      ∙ append-assoc (take k row) (weight ∷ []) (default-row (missing - (k + 1)) (length row₀ - (k + 1)))
+      ∙ ap (λ rest. take k row ++ rest) (sym next)
+      ∙ so-far .goes-on;
+}
+
+pub all-filled : {missing : ℕ} {row₀ row : List ℤ} {k : ℕ} → RowFilled missing row₀ row k → length row₀ ≤ k → row ≡ default-row missing (length row₀)
+unfolding default-row
+all-filled {missing} {row₀} {row} {k} so-far h =
+    let none : length row₀ - k ≡ 0 = omega arith in
+    sym (take-all k row (omega (arith, so-far .same-length)))
+    ∙ sym (append-nil (take k row))
+    ∙ (rw none at (so-far .goes-on))
+
+-- ---- Row after row
+
+pub one-more-amount-row : (m : ℕ) → amounts-length (suc m) ≡ amounts-length m + suc m
+one-more-amount-row m = omega (arith, mul-suc m m, mul-suc (suc m) (suc m), suc-mul m (suc m), add-one m, add-one (suc m))
+
+-- what is left after a row of m numbers
+pub room-after-row : {n rows room : ℕ} → rows < n → amounts-length (n - rows) ≤ room
+    → (n - rows ≤ room) × (amounts-length (n - (rows + 1)) ≤ room - (n - rows))
+room-after-row {n} {rows} {room} h enough =
+    let left = n - (rows + 1) in
+    let more : n - rows ≡ suc left = omega arith in
+    let sum : amounts-length (n - rows) ≡ amounts-length left + suc left = ap amounts-length more ∙ one-more-amount-row left in
+    omega arith
+
+-- the weights of the first rows stand in a list, so many numbers of it
+pub record WeightsFilled (n Y : ℕ) (list₀ list : List ℤ) (count rows : ℕ) : Type 0 where
+  pub same-length : length list ≡ length list₀
+  pub rows-within : rows ≤ n
+  pub count-within : count ≤ length list₀
+  pub room : amounts-length (n - rows) ≤ length list₀ - count
+  pub goes-on : take count list ++ default-from Y rows (n - rows) ≡ default-weights n Y
+
+pub no-row-filled : (n Y : ℕ) (list₀ : List ℤ) → amounts-length n ≤ length list₀ → WeightsFilled n Y list₀ list₀ 0 0
+no-row-filled n Y list₀ enough =
+    let a : n - 0 ≡ n = omega arith in
+    record {
+      same-length = refl;
+      rows-within = omega arith;
+      count-within = omega arith;
+      room = omega (arith, ap amounts-length a);
+      goes-on = rw a refl;
+    }
+
+module _ {n Y : ℕ} {list₀ list : List ℤ} {count rows : ℕ} (so-far : WeightsFilled n Y list₀ list count rows) where
+  module _ (h : rows < n) where
+    pub row-fits : count + (n - rows) ≤ length list₀
+    row-fits = omega (arith, so-far .count-within, room-after-row h (so-far .room))
+
+    pub one-more-row : {list′ : List ℤ} → length list′ ≡ length list₀ → take count list′ ≡ take count list
+        → take (n - rows) (drop count list′) ≡ default-row (Y - (rows + 1)) (n - rows)
+        → WeightsFilled n Y list₀ list′ (count + (n - rows)) (rows + 1)
+    unfolding default-from
+    one-more-row {list′} long kept filled =
+        let left = n - (rows + 1) in
+        let more : n - rows ≡ suc left = omega arith in
+        let row : default-row (Y - (rows + 1)) (n - rows) ≡ default-row (Y - suc rows) (suc left) = ap₂ default-row (ap (λ r. Y - r) (add-one rows)) more in
+        let unfolded : default-from Y rows (n - rows) ≡ default-row (Y - suc rows) (suc left) ++ default-from Y (suc rows) left = ap (default-from Y rows) more in
+        record {
+          same-length = long;
+          rows-within = omega arith;
+          count-within = row-fits;
+          room = omega (arith, room-after-row h (so-far .room));
+          goes-on =
+              ap₂ _++_ (take-add count (n - rows) list′ ∙ ap₂ _++_ kept (filled ∙ row)) (ap (λ r. default-from Y r left) (add-one rows))
+              ∙ append-assoc (take count list) (default-row (Y - suc rows) (suc left)) (default-from Y (suc rows) left)
+              ∙ ap (λ rest. take count list ++ rest) (sym unfolded)
+              ∙ so-far .goes-on;
+        }
+
+    -- with the row back in the list
+    pub row-back : {list′ row : List ℤ} → PartBack list list′ row count → length row ≡ n - rows
+        → row ≡ default-row (Y - (rows + 1)) (n - rows) → WeightsFilled n Y list₀ list′ (count + (n - rows)) (rows + 1)
+    row-back {list′} {row} back long filled =
+        one-more-row (back .same-length ∙ so-far .same-length) (back .first-kept)
+        (ap (λ (cells : ℕ). take cells (drop count list′)) (sym long) ∙ back .part-there ∙ filled)
+
+  pub all-rows-filled : n ≤ rows → take count list ≡ default-weights n Y
+  unfolding default-from
+  all-rows-filled h =
+      let none : n - rows ≡ 0 = omega arith in
+      sym (append-nil (take count list)) ∙ (rw none at (so-far .goes-on))
+
+  pub all-counted : n ≤ rows → count ≡ length (default-weights n Y)
+  all-counted h = sym (length-take-le count list (omega (arith, so-far .count-within, so-far .same-length))) ∙ ap length (all-rows-filled h)

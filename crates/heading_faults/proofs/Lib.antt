@@ -1,0 +1,2 @@
+-- The laws of the checks of a line.
+pub mod LineChecks
