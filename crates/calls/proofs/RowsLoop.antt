@@ -15,7 +15,7 @@ use Rattle.method.specs.AnswerPlaces.{unseen-before}
 use Rattle.method.proofs.Counting.{up-to-none, up-to-more}
 use Rattle.method.proofs.FirstRefusal.{not-both, PassedSoFar, none-asked, next-accepted, next-refused, all-accepted}
 use Rattle.method.proofs.Positions.{unseen-before-more, unseen-before-mono, unseen-cells}
-use Rattle.triangle.specs.declared.ratios.Sums.{Sums}
+use Rattle.ratios.specs.declared.Sums.{Sums}
 use Rattle.verdicts.specs.Verdicts.{verdict-of}
 use Rattle.projected_rows.specs.declared.ProjectedRow.{ProjectedRow}
 use Rattle.projected_rows.specs.ProjectedRows.{verdict-of-row, figures-of-row, reserves-of-row, figures-verdict, row-figures, row-reserves, reserves-answered, RowProjected, Projectable, RowsProjected}

@@ -6,7 +6,7 @@ ghost use Rattle.verdicts.specs.Verdicts.{verdict-of};
 ghost use Rattle.projected_rows.specs.ProjectedRows.{Projectable, RowsProjected};
 use projected_rows::project_row;
 use projection::lists::write_three;
-use triangle::ratios::Development;
+use ratios::Development;
 use verdicts::verdict::Verdict;
 
 // Projects every accident year: its figures into the future list, its reserves into the reserve list.

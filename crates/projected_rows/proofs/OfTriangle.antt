@@ -23,8 +23,8 @@ use Rattle.method.proofs.RunOff.{O-observed, O-projected}
 use Rattle.method.proofs.QuestionFacts.{Observed}
 use Rattle.method.proofs.Readings.{R-in-range}
 use Rattle.method.proofs.SumBounds.{sums-in-range}
-use Rattle.triangle.specs.declared.ratios.Sums.{Sums}
-use Rattle.triangle.specs.Ratios.{DevelopmentOf}
+use Rattle.ratios.specs.declared.Sums.{Sums}
+use Rattle.ratios.specs.Ratios.{DevelopmentOf}
 use Rattle.method.specs.SumLimits.{SumsInRange}
 use Rattle.projected_rows.proofs.RowLoop.{same-three}
 use Rattle.projected_rows.specs.ProjectedRows.{sums-at, outstanding-after, projected-year, row-question, figures-verdict, row-figures, row-payments, row-adjustments, row-reserves, observed-of, verdict-of-row, figures-of-row, reserves-of-row, Projectable}

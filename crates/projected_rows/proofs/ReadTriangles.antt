@@ -13,7 +13,7 @@ use Rattle.questions.specs.Inputs.{lists-right}
 use Rattle.questions.proofs.Counted.{lists-have-lengths}
 use Rattle.verdicts.specs.Verdicts.{verdict-of}
 use Rattle.triangle.specs.declared.reading.Reading.{Reading}
-use Rattle.triangle.specs.Ratios.{DevelopmentOf}
+use Rattle.ratios.specs.Ratios.{DevelopmentOf}
 use Rattle.triangle.specs.Reading.{development, ReadingOf}
 use Rattle.triangle.proofs.Tables.{development-holds}
 use Rattle.projected_rows.specs.ProjectedRows.{Projectable}

@@ -8,7 +8,7 @@ use lib.IntN.{ℤ, pos, _*ℤ_}
 use lib.ListN.{getD}
 use Rattle.method.specs.Limits.{one-unit}
 use Rattle.method.proofs.Positions.{entry-at}
-use Rattle.triangle.specs.declared.ratios.Sums.{Sums}
+use Rattle.ratios.specs.declared.Sums.{Sums}
 use Rattle.verdicts.specs.Verdicts.{verdict-of}
 use Rattle.projected_rows.specs.declared.ProjectedRow.{ProjectedRow}
 use Rattle.projected_rows.specs.ProjectedRows.{observed-of, verdict-of-row, figures-verdict, RowInput, RowProjected, Projectable}

@@ -28,7 +28,7 @@ use Rattle.method.proofs.Sums.{sum-none, sum-more}
 use Rattle.method.proofs.FirstRefusal.{ask-yes, ask-no, PassedSoFar, none-asked, next-accepted, next-refused, all-accepted}
 use Rattle.method.proofs.Projection.{next-nonneg}
 use Rattle.share.specs.Share.{greatest-size}
-use Rattle.triangle.specs.declared.ratios.Sums.{Sums}
+use Rattle.ratios.specs.declared.Sums.{Sums}
 use Rattle.projection.specs.declared.year.Movement.{Movement}
 use Rattle.projection.specs.declared.year.ProjectedYear.the-variants.{Within, TooLarge}
 use Rattle.projection.specs.Year.{ProjectedYearInput, year-or-too-large, movement-of}

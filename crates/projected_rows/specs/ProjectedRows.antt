@@ -16,8 +16,8 @@ use Rattle.method.specs.Verdicts.{Verdict, accepted, refused, at, ask, first-to
 use Rattle.method.specs.Questions.{figures-in-range}
 use Rattle.share.specs.Share.{greatest-size}
 use Rattle.verdicts.specs.Verdicts.{verdict-of}
-use Rattle.triangle.specs.declared.ratios.Sums.{Sums}
-use Rattle.triangle.specs.Ratios.{sums-of, no-sums}
+use Rattle.ratios.specs.declared.Sums.{Sums}
+use Rattle.ratios.specs.Ratios.{sums-of, no-sums}
 use Rattle.method.specs.SumLimits.{SumsInRange}
 use Rattle.projected_rows.specs.declared.ProjectedRow.{ProjectedRow}
 

@@ -8,8 +8,8 @@ ghost use Rattle.projected_rows.specs.ProjectedRows.{RowInput, RowProjec
 use projection::lists::write_three;
 use projection::year::ProjectedYear;
 use projection::year::next_year;
+use ratios::Sums;
 use share::millionths::Millionths;
-use triangle::ratios::Sums;
 use verdicts::limits::DEVELOPMENT_YEARS;
 use verdicts::verdict::Verdict;
 use verdicts::verdict::refusal_at;

@@ -1,12 +1,12 @@
 // One projected year: its payment, its adjustment, and the outstanding that they lead to.
 ghost use mathlib.Core.Path.{_≡_};
 ghost use Rattle.method.specs.ProjectedYear.{next-year};
-ghost use Rattle.triangle.specs.Ratios.{sums-of};
+ghost use Rattle.ratios.specs.Ratios.{sums-of};
 ghost use Rattle.projection.specs.Year.{ProjectedYearInput, year-or-too-large};
+use ratios::Sums;
 use share::Share;
 use share::millionths::Millionths;
 use share::rounded_share;
-use triangle::ratios::Sums;
 use verdicts::limits::GREATEST_FIGURE;
 
 // The figures of a projected cell.

@@ -17,7 +17,7 @@ use Rattle.method.specs.Questions.{figures-in-range}
 use Rattle.method.proofs.Projection.{next-nonneg}
 use Rattle.method.proofs.QuestionFacts.{figures-in-range-true}
 use Rattle.share.specs.Share.{greatest-size}
-use Rattle.triangle.specs.declared.ratios.Sums.{Sums}
+use Rattle.ratios.specs.declared.Sums.{Sums}
 use Rattle.projection.specs.declared.year.Movement.{Movement}
 use Rattle.projection.specs.declared.year.ProjectedYear.the-variants.{Within, TooLarge}
 use Rattle.projection.specs.Year.{ProjectedYearInput, year-or-too-large, movement-of}

@@ -18,8 +18,8 @@ use Rattle.method.proofs.Demands.{demand-1-of-cell-answer, cell-answer-of-futur
 use Rattle.method.proofs.FirstRefusal.{ask-accepted, first-accepted}
 use Rattle.method.proofs.QuestionFacts.{UnseenCell}
 use Rattle.method.proofs.Positions.{entry-at}
-use Rattle.triangle.specs.declared.ratios.Sums.{Sums}
-use Rattle.triangle.specs.Ratios.{DevelopmentOf}
+use Rattle.ratios.specs.declared.Sums.{Sums}
+use Rattle.ratios.specs.Ratios.{DevelopmentOf}
 use Rattle.projected_rows.specs.ProjectedRows.{projected-year, row-question, figures-verdict, observed-of, verdict-of-row, RowInput, Projectable}
 use Rattle.projected_rows.proofs.RowLoop.{RowInMillionths, in-millionths}
 use Rattle.projected_rows.proofs.OfTriangle.{year-is}

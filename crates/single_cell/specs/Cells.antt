@@ -9,7 +9,7 @@ use Rattle.method.specs.Limits.{greatest-figure, most-accident-years}
 use Rattle.method.specs.ProjectedYear.{Movement}
 use Rattle.method.specs.Verdicts.{accepted}
 use Rattle.method.specs.Questions.{figures-in-range}
-use Rattle.triangle.specs.declared.ratios.Sums.{Sums}
+use Rattle.ratios.specs.declared.Sums.{Sums}
 use Rattle.method.specs.SumLimits.{SumsInRange}
 use Rattle.projected_rows.specs.ProjectedRows.{sums-at, outstanding-after, projected-year, observed-of, verdict-of-row, Projectable}
 

@@ -7,8 +7,8 @@ use lib.IntN.{ℤ}
 use lib.ListN.{length, getD, length-append}
 use Rattle.figures.specs.Bytes.{bytes}
 use Rattle.written_figures.specs.Writing.{whole-text, amount-text}
-use Rattle.triangle.specs.Ratios.{no-sums}
-use Rattle.triangle.specs.declared.ratios.Sums.{Sums}
+use Rattle.ratios.specs.Ratios.{no-sums}
+use Rattle.ratios.specs.declared.Sums.{Sums}
 use Rattle.printed.specs.Entries.{set-right, entry, count-text}
 use Rattle.printed.specs.Filling.{places}
 use Rattle.printed.proofs.Room.{filled-fits, number-length, amount-length, set-right-length, entry-length, count-length}

@@ -4,8 +4,8 @@ use Prim.Native.Nat.{ℕ, _+_, _-_, max}
 use lib.ListN.{length, getD}
 use Rattle.figures.specs.Bytes.{bytes}
 use Rattle.written_figures.specs.Writing.{whole-text}
-use Rattle.triangle.specs.Ratios.{no-sums}
-use Rattle.triangle.specs.declared.ratios.Sums.{Sums}
+use Rattle.ratios.specs.Ratios.{no-sums}
+use Rattle.ratios.specs.declared.Sums.{Sums}
 use Rattle.printed.specs.Entries.{set-right, entry, count-text, widest-from}
 
 abbrev pub sums-title : List ℕ

@@ -17,7 +17,7 @@ use printed::line::line_of;
 use printed::line::with_spaces;
 use printed::line::with_text;
 use printed::line::with_written;
-use triangle::ratios::Sums;
+use ratios::Sums;
 use verdicts::limits::DEVELOPMENT_YEARS;
 use written_figures::writing::whole;
 

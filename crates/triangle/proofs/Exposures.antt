@@ -14,8 +14,8 @@ use Rattle.method.specs.Outstandings.{sums}
 use Rattle.method.specs.Verdicts.{accepted, refused, at, ask}
 use Rattle.method.specs.Questions.{question-8}
 use Rattle.method.proofs.FirstRefusal.{ask-yes, ask-no, first-same}
-use Rattle.triangle.specs.declared.ratios.Sums.{Sums}
-use Rattle.triangle.specs.Ratios.{no-sums, DevelopmentOf}
+use Rattle.ratios.specs.declared.Sums.{Sums}
+use Rattle.ratios.specs.Ratios.{no-sums, DevelopmentOf}
 use Rattle.triangle.specs.Reading.{exposure-of-year, exposures}
 
 -- number j of the years, counted from 0

@@ -13,8 +13,8 @@ use Rattle.verdicts.specs.declared.verdict.Verdict as code
 use Rattle.verdicts.specs.Verdicts.{verdict-of}
 use Rattle.questions.specs.declared.inputs.AnswerLists.{AnswerLists}
 use Rattle.questions.specs.Inputs.{triangle-of, counted, lists-right}
-use Rattle.triangle.specs.declared.ratios.Development.{Development}
-use Rattle.triangle.specs.Ratios.{DevelopmentOf, Readable, DevelopmentRead}
+use Rattle.ratios.specs.declared.Development.{Development}
+use Rattle.ratios.specs.Ratios.{DevelopmentOf, Readable, DevelopmentRead}
 use Rattle.triangle.specs.Reading.{no-development, development, ReadingOf}
 use Rattle.triangle.proofs.Tables.{read-is}
 use Rattle.questions.proofs.Counted.{lists-have-lengths, inputs-right, counted-is}

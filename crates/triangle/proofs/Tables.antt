@@ -10,8 +10,8 @@ use lib.Seq.{ext-getD}
 use Rattle.method.specs.Limits.{most-accident-years, most-ratios}
 use Rattle.method.specs.Triangle.{Triangle, n}
 use Rattle.method.specs.Verdicts.{accepted}
-use Rattle.triangle.specs.declared.ratios.Development.{Development}
-use Rattle.triangle.specs.Ratios.{sums-of, no-sums, DevelopmentOf}
+use Rattle.ratios.specs.declared.Development.{Development}
+use Rattle.ratios.specs.Ratios.{sums-of, no-sums, DevelopmentOf}
 use Rattle.triangle.specs.Reading.{values, as-sums, ratios-at, outstanding-at, development}
 
 values-length : {A : Type 0} (m : ℕ) (f : ℕ → A) → length (values m f) ≡ m

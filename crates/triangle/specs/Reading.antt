@@ -16,10 +16,10 @@ use Rattle.method.specs.Questions.{observed-questions}
 use Rattle.verdicts.specs.Verdicts.{verdict-of}
 use Rattle.questions.specs.declared.inputs.AnswerLists.{AnswerLists}
 use Rattle.questions.specs.Inputs.{lists-right}
-use Rattle.triangle.specs.declared.ratios.Development.{Development}
-use Rattle.triangle.specs.declared.ratios.Sums.{Sums}
+use Rattle.ratios.specs.declared.Development.{Development}
+use Rattle.ratios.specs.declared.Sums.{Sums}
 use Rattle.triangle.specs.declared.reading.Reading.{Reading}
-use Rattle.triangle.specs.Ratios.{no-sums}
+use Rattle.ratios.specs.Ratios.{no-sums}
 
 -- f 0, f 1, …, f (m − 1), as an array of m places holds them
 unfoldable pub values : {A : Type 0} → ℕ → (ℕ → A) → List A

@@ -1,3 +1,2 @@
-// Reading a triangle: its ratios, and question 8.
-pub mod ratios;
+// Reading a triangle: questions 1 to 8, and the ratios of a triangle that they accept.
 pub mod reading;

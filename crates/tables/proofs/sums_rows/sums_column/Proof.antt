@@ -5,7 +5,7 @@ use native.Mathlib.Omega.{arith}
 use borrow.Author.Needs.{needs}
 use lib.ListN.{getD}
 use native.Mathlib.Nat.{sub-zero}
-use Rattle.triangle.specs.Ratios.{no-sums}
+use Rattle.ratios.specs.Ratios.{no-sums}
 use Rattle.printed.specs.Entries.{widest-from}
 use Rattle.tables.specs.SumsRows.{sums-width, sums-column}
 use Rattle.printed.proofs.Widths.{one-width-more, no-width-more}

@@ -3,7 +3,7 @@ use Prim.Native.Nat.{_-_}
 use borrow.Author.Needs.{needs}
 use lib.ListN.{getD}
 use Rattle.integers.proofs.MachineArithmetic.{held}
-use Rattle.triangle.specs.Ratios.{no-sums}
+use Rattle.ratios.specs.Ratios.{no-sums}
 use Rattle.printed.proofs.LineTexts.{both-after, line-after}
 use Rattle.tables.specs.SumsRows.{sums-row}
 use Rattle.tables.proofs.sums_rows.sums_row.Statement.{statement}

@@ -9,7 +9,7 @@ use lib.ListN.{getD}
 use lib.Signed.{ltZ}
 use Rattle.integers.proofs.MachineArithmetic.{held}
 use Rattle.method.proofs.FirstRefusal.{PassedSoFar, none-asked, next-accepted, next-refused, all-accepted}
-use Rattle.triangle.specs.Ratios.{no-sums}
+use Rattle.ratios.specs.Ratios.{no-sums}
 use Rattle.triangle.specs.Reading.{exposure-of-year, exposures}
 use Rattle.triangle.proofs.Exposures.{exposure-passed, exposure-refused}
 use Rattle.triangle.proofs.reading.question_8.Statement.{statement}

@@ -10,7 +10,7 @@ use Rattle.method.proofs.QuestionFacts.{Observed}
 use Rattle.verdicts.specs.Verdicts.{verdict-of}
 use Rattle.verdicts.proofs.Counts.{count-fits}
 use Rattle.questions.specs.Inputs.{triangle-of, lists-right}
-use Rattle.triangle.specs.Ratios.{DevelopmentOf}
+use Rattle.ratios.specs.Ratios.{DevelopmentOf}
 use Rattle.triangle.proofs.Exposures.{question-8-is}
 use Rattle.triangle.proofs.ReadingAnswers.{refused-reading, accepted-reading, observed, readable, development-is}
 use Rattle.triangle.proofs.reading.read.Statement.{statement}

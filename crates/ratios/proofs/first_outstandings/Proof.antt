@@ -9,9 +9,9 @@ use mir.Syntax.{w64}
 use mir.Val.{toZ, ofZ}
 use Rattle.integers.proofs.MachineArithmetic.{Held, held}
 use Rattle.method.specs.Triangle.{amounts-length, entry}
-use Rattle.triangle.proofs.FirstYear.{Placed, none-placed, first-inside, movable, one-more-placed, all-placed}
-use Rattle.triangle.proofs.ratios.first_outstandings.Statement.{statement}
-use Rattle.triangle.proofs.ratios.first_outstandings.Tie as tie
+use Rattle.ratios.proofs.FirstYear.{Placed, none-placed, first-inside, movable, one-more-placed, all-placed}
+use Rattle.ratios.proofs.first_outstandings.Statement.{statement}
+use Rattle.ratios.proofs.first_outstandings.Tie as tie
 
 abbrev Inv-loop : tie.InvT-loop
 Inv-loop n payments adjustments openings outstandings₀ start₀ r₀ outstandings start r = Placed n payments adjustments openings outstandings start r

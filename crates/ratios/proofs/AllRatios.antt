@@ -17,10 +17,10 @@ use Rattle.method.proofs.Readings.{R-in-range}
 use Rattle.method.proofs.Positions.{entry-at}
 use Rattle.method.proofs.Sums.{sum-same}
 use Rattle.method.proofs.SumBounds.{weight-size}
-use Rattle.triangle.specs.declared.ratios.Sums.{Sums}
-use Rattle.triangle.specs.Ratios.{sums-of, no-sums, partial-sums, DevelopmentOf, FirstYear, FirstOutstandings, DevelopmentYearInput, MovedOn}
-use Rattle.triangle.proofs.Places.{blank, one-more-place}
-use Rattle.triangle.proofs.DevelopmentYear.{same-sums}
+use Rattle.ratios.specs.declared.Sums.{Sums}
+use Rattle.ratios.specs.Ratios.{sums-of, no-sums, partial-sums, DevelopmentOf, FirstYear, FirstOutstandings, DevelopmentYearInput, MovedOn}
+use Rattle.ratios.proofs.Places.{blank, one-more-place}
+use Rattle.ratios.proofs.DevelopmentYear.{same-sums}
 
 -- ---- What questions 1 to 7 leave, as the code wants it
 

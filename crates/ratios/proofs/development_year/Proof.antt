@@ -7,10 +7,10 @@ use lib.IntN.{pos}
 use lib.ListN.{length, getD}
 use Rattle.integers.proofs.MachineArithmetic.{Held, held}
 use Rattle.method.specs.Triangle.{amounts-length}
-use Rattle.triangle.specs.Ratios.{sums-of}
-use Rattle.triangle.proofs.DevelopmentYear.{Summed, before-first-row, weight-inside, amount-inside, addable, movable, next-row, all-rows}
-use Rattle.triangle.proofs.ratios.development_year.Statement.{statement}
-use Rattle.triangle.proofs.ratios.development_year.Tie as tie
+use Rattle.ratios.specs.Ratios.{sums-of}
+use Rattle.ratios.proofs.DevelopmentYear.{Summed, before-first-row, weight-inside, amount-inside, addable, movable, next-row, all-rows}
+use Rattle.ratios.proofs.development_year.Statement.{statement}
+use Rattle.ratios.proofs.development_year.Tie as tie
 
 abbrev Inv-loop : tie.InvT-loop
 Inv-loop n k payments adjustments weights outstandings₀ sums₀ years weight-at₀ amount-at₀ r₀ outstandings sums weight-at amount-at r =

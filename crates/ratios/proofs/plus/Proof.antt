@@ -1,8 +1,8 @@
 -- Neither the term nor the sum passes 64 bits.
 use mir.Facts.{toZ-ofZ}
-use Rattle.triangle.proofs.DevelopmentYear.{term-fits, sum-fits}
-use Rattle.triangle.proofs.ratios.plus.Statement.{statement}
-use Rattle.triangle.proofs.ratios.plus.Tie as tie
+use Rattle.ratios.proofs.DevelopmentYear.{term-fits, sum-fits}
+use Rattle.ratios.proofs.plus.Statement.{statement}
+use Rattle.ratios.proofs.plus.Tie as tie
 
 mul-result : tie.Need-mul-result
 mul-result c = simp (toZ-ofZ (c .fits .weight), toZ-ofZ (c .fits .amount)) (term-fits (c .args .sum) (c .args .weight) (c .args .amount) (c .pre))

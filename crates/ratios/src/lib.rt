@@ -2,7 +2,7 @@
 ghost use mathlib.Core.Path.{_≡_};
 ghost use lib.IntN.{_+ℤ_, _*ℤ_};
 ghost use Prim.Native.Nat.{_-_, _≤_};
-ghost use Rattle.triangle.specs.Ratios.{Readable, DevelopmentRead, FirstYear, FirstOutstandings, DevelopmentYearInput, partial-sums, MovedOn, sums-of, RowAddable, with-row, Summable};
+ghost use Rattle.ratios.specs.Ratios.{Readable, DevelopmentRead, FirstYear, FirstOutstandings, DevelopmentYearInput, partial-sums, MovedOn, sums-of, RowAddable, with-row, Summable};
 use outstandings::next_outstanding;
 use outstandings::opening_of;
 use verdicts::limits::ACCIDENT_YEARS;
@@ -18,7 +18,7 @@ pub struct Sums {
     pub exposure: i64,
 }
 
-pub(crate) const NO_SUMS: Sums = Sums {
+pub const NO_SUMS: Sums = Sums {
     payments: 0,
     adjustments: 0,
     exposure: 0,
@@ -32,7 +32,7 @@ pub struct Development {
 }
 
 // The ratios and last observed outstandings of a triangle that has passed questions 1 to 7.
-pub(crate) fn development_of<'a>(
+pub fn development_of<'a>(
     n: usize,
     payments: &'a [i64],
     adjustments: &'a [i64],

@@ -3,9 +3,9 @@ use borrow.Author.Needs.{needs}
 use mathlib.Core.Path.{_∙_}
 use mir.Facts.{toZ-ofZ}
 use Rattle.integers.proofs.MachineArithmetic.{held}
-use Rattle.triangle.proofs.DevelopmentYear.{so-far-fits, same-sums}
-use Rattle.triangle.proofs.ratios.added.Statement.{statement}
-use Rattle.triangle.proofs.ratios.added.Tie as tie
+use Rattle.ratios.proofs.DevelopmentYear.{so-far-fits, same-sums}
+use Rattle.ratios.proofs.added.Statement.{statement}
+use Rattle.ratios.proofs.added.Tie as tie
 
 plus-requires : tie.Need-plus-requires
 plus-requires c κs = search needs

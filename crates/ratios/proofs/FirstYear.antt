@@ -12,8 +12,8 @@ use Rattle.method.specs.Limits.{greatest-amount, most-accident-years}
 use Rattle.method.specs.Triangle.{amounts-length, cells-before, cell, entry}
 use Rattle.method.proofs.Positions.{cells-before-none, cells-before-more, cell-of-place, cell-inside}
 use Rattle.outstandings.specs.Observed.{Movable}
-use Rattle.triangle.specs.Ratios.{FirstYear, FirstOutstandings}
-use Rattle.triangle.proofs.Places.{blank, one-more-place}
+use Rattle.ratios.specs.Ratios.{FirstYear, FirstOutstandings}
+use Rattle.ratios.proofs.Places.{blank, one-more-place}
 
 -- the outstandings of the first r accident years are in their places, and zeros in the others
 pub record Placed (n : ℕ) (payments adjustments openings outstandings : List ℤ) (start r : ℕ) : Type 0 where

@@ -7,9 +7,9 @@ use native.Mathlib.Omega.{arith}
 use Rattle.method.specs.Triangle.{Triangle}
 use Rattle.method.proofs.QuestionFacts.{Observed, observed-triangle, says-input-lengths}
 use Rattle.questions.specs.Inputs.{counted}
-use Rattle.triangle.proofs.AllRatios.{first-year, year-input, YearsMade, no-year-made, one-more-year, all-years-made}
-use Rattle.triangle.proofs.ratios.development_of.Statement.{statement}
-use Rattle.triangle.proofs.ratios.development_of.Tie as tie
+use Rattle.ratios.proofs.AllRatios.{first-year, year-input, YearsMade, no-year-made, one-more-year, all-years-made}
+use Rattle.ratios.proofs.development_of.Statement.{statement}
+use Rattle.ratios.proofs.development_of.Tie as tie
 
 abbrev Inv-loop : tie.InvT-loop
 Inv-loop n payments adjustments weights openings ratios₀ outstandings₀ k₀ ratios outstandings k = (cut : ℕ) → YearsMade

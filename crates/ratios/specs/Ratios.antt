@@ -14,7 +14,7 @@ use Rattle.method.specs.Outstandings as meaning
 use Rattle.method.specs.Outstandings.{R, sums}
 use Rattle.method.specs.Verdicts.{accepted}
 use Rattle.method.specs.Questions.{input-lengths-right, input-questions}
-use Rattle.triangle.specs.declared.ratios.Sums.{Sums}
+use Rattle.ratios.specs.declared.Sums.{Sums}
 use Rattle.questions.specs.Inputs.{counted}
 
 -- ---- The sums of the code and of document 01

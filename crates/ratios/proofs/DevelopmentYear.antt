@@ -22,8 +22,8 @@ use Rattle.method.proofs.Positions.{cells-before-none, cells-before-more, cell-
 use Rattle.method.proofs.Sums.{sum-none, sum-more}
 use Rattle.method.proofs.SumBounds.{term-size, few-terms}
 use Rattle.outstandings.specs.Observed.{Movable}
-use Rattle.triangle.proofs.Places.{one-more-place}
-use Rattle.triangle.specs.Ratios.{partial-sums, MovedOn, DevelopmentYearInput, with-row, Summable, RowAddable}
+use Rattle.ratios.proofs.Places.{one-more-place}
+use Rattle.ratios.specs.Ratios.{partial-sums, MovedOn, DevelopmentYearInput, with-row, Summable, RowAddable}
 
 -- ---- A term and a sum within 64 bits
 
