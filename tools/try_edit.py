@@ -96,10 +96,13 @@ def try_edit(crate, reason, file, pairs):
         copy.mkdir()
         for name in ("crates", "crates.txt", "target"):
             source = REPOSITORY / name
-            if source.is_dir():
-                shutil.copytree(source, copy / name, symlinks=True)
-            elif source.exists():
-                shutil.copy2(source, copy / name)
+            try:
+                if source.is_dir():
+                    shutil.copytree(source, copy / name, symlinks=True)
+                elif source.exists():
+                    shutil.copy2(source, copy / name)
+            except OSError as error:
+                wrong(f"{name} could not be copied; does another check write it now? {str(error)[:300]}")
         (copy / "crates" / crate / file).write_text(text)
         print(f"{reason}\ncrates/{crate}/{file}")
         for old, new in pairs:

@@ -1,8 +1,13 @@
 //! The proved call that fills both answer lists beside the same call in plain Rust: first that all answer alike, then how long each takes.
 
+#[path = "../../common/clock.rs"]
+mod clock;
 mod inputs;
 mod plain;
+#[path = "../../common/random.rs"]
 mod random;
+#[path = "../../common/ratios.rs"]
+mod ratios;
 mod times;
 
 use std::process::ExitCode;
@@ -10,6 +15,7 @@ use std::process::ExitCode;
 use inputs::{Call, Family, FAMILIES};
 use juniperprow::{Refusal, Triangle};
 use random::Random;
+use ratios::{ByI128, ByU128, Prepared};
 
 const SEED: u64 = 20_080_001;
 const SIZES: [usize; 3] = [10, 20, 32];
@@ -18,11 +24,12 @@ const CHANGED_CALLS: usize = 20_000;
 
 type Version = fn(&Triangle, &mut [i64], &mut [i64]) -> Result<(), Refusal>;
 
-/// The proved one first.
-const VERSIONS: [(&str, Version); 3] = [
+/// The proved one first, then those that divide for every share.
+const VERSIONS: [(&str, Version); 4] = [
     ("proved", juniperprow::reserve_into),
-    ("i128", plain::by_i128),
-    ("u128", plain::by_u128),
+    ("i128", plain::reserve_into::<ByI128>),
+    ("u128", plain::reserve_into::<ByU128>),
+    ("prepared", plain::reserve_into::<Prepared>),
 ];
 
 fn main() -> ExitCode {
@@ -67,7 +74,7 @@ fn compare_and_time(random: &mut Random) -> Result<(), String> {
 fn accepted(n: usize, family: &Family, random: &mut Random) -> Call {
     loop {
         let call = (family.call)(n, random);
-        if answer(&call, plain::by_i128).0.is_ok() {
+        if answer(&call, plain::reserve_into::<ByI128>).0.is_ok() {
             return call;
         }
     }

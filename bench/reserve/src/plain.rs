@@ -1,72 +1,24 @@
 //! The same call in plain Rust: for every input the same refusal and the same lists.
 //!
-//! An accepted triangle is asked its questions 4 to 7 in one sign bit, without a branch, and projected year by year with all its rows side by side, so that the divisions of one year need not wait for each other.
+//! An accepted triangle is asked its questions 4 to 7 in one sign bit, without a branch, and projected year by year with all its rows side by side, so that the shares of one year need not wait for each other.
 //! Only a refused one is gone through in the order of the questions, for its number and place.
 
 use juniperprow::{Place, Question, Refusal, Triangle, ONE_UNIT};
 
+use crate::ratios::{Ratio, GREATEST_FIGURE};
+
 const GREATEST_WEIGHT: i64 = 100;
 const GREATEST_AMOUNT: i64 = 1_000_000_000;
 const GREATEST_OUTSTANDING: i64 = 1_000_000_000;
-const GREATEST_FIGURE: i64 = 10_000_000_000_000_000;
 const MOST_YEARS: usize = 32;
 
-// ---- The two versions
-
-/// With shares on signed 128-bit numbers.
-#[inline(never)]
-pub fn by_i128(
+/// With shares by ratios of this kind.
+pub fn reserve_into<R: Ratio>(
     triangle: &Triangle,
     future: &mut [i64],
     reserves: &mut [i64],
 ) -> Result<(), Refusal> {
-    reserve_into(share_by_i128, triangle, future, reserves)
-}
-
-/// With shares on unsigned 128-bit numbers, by sign and size.
-#[inline(never)]
-pub fn by_u128(
-    triangle: &Triangle,
-    future: &mut [i64],
-    reserves: &mut [i64],
-) -> Result<(), Refusal> {
-    reserve_into(share_by_u128, triangle, future, reserves)
-}
-
-/// outstanding × part / exposure rounded half up, or none where its size passes the limit.
-#[inline(always)]
-fn share_by_i128(outstanding: i64, part: i64, exposure: i64) -> Option<i64> {
-    let dividend = i128::from(outstanding) * i128::from(part) + i128::from(exposure / 2);
-    let share = dividend.div_euclid(i128::from(exposure));
-    if share.unsigned_abs() > GREATEST_FIGURE as u128 {
-        return None;
-    }
-    Some(share as i64)
-}
-
-/// The same. A negative share gets a half that is too little for an exact half.
-#[inline(always)]
-fn share_by_u128(outstanding: i64, part: i64, exposure: i64) -> Option<i64> {
-    let half = (exposure - i64::from(part < 0)) as u64 / 2;
-    let product = u128::from(outstanding as u64) * u128::from(part.unsigned_abs());
-    let size = (product + u128::from(half)) / u128::from(exposure as u64);
-    if size > GREATEST_FIGURE as u128 {
-        return None;
-    }
-    let size = size as i64;
-    Some(if part < 0 { -size } else { size })
-}
-
-// ---- The call
-
-#[inline(always)]
-fn reserve_into(
-    share: impl Fn(i64, i64, i64) -> Option<i64>,
-    triangle: &Triangle,
-    future: &mut [i64],
-    reserves: &mut [i64],
-) -> Result<(), Refusal> {
-    let answer = fill(share, triangle, future, reserves);
+    let answer = fill::<R>(triangle, future, reserves);
     if answer.is_err() {
         future.fill(0);
         reserves.fill(0);
@@ -75,8 +27,7 @@ fn reserve_into(
 }
 
 #[inline(always)]
-fn fill(
-    share: impl Fn(i64, i64, i64) -> Option<i64>,
+fn fill<R: Ratio>(
     triangle: &Triangle,
     future: &mut [i64],
     reserves: &mut [i64],
@@ -90,8 +41,8 @@ fn fill(
     if let Some(place) = sums.iter().position(|sums| sums.exposure <= 0) {
         return Err(refusal(Question::ExposureNotPositive, 0, place + 1));
     }
-    if !project(&share, sums, outstandings, future, reserves) {
-        return Err(refusal_in_projection(share, sums, outstandings));
+    if !project::<R>(sums, outstandings, future, reserves) {
+        return Err(refusal_in_projection::<R>(sums, outstandings));
     }
     Ok(())
 }
@@ -216,15 +167,13 @@ fn read(cut: usize, triangle: &Triangle, sums: &mut [Sums], outstandings: &mut [
 struct Row {
     outstanding: i64,
     paid: i64,
-    incurred: i64,
     /// The place of its next figures in the future list.
     next: usize,
 }
 
 /// Fills both lists. Whether question 9 accepts; else they are filled in part.
 #[inline(always)]
-fn project(
-    share: impl Fn(i64, i64, i64) -> Option<i64>,
+fn project<R: Ratio>(
     sums: &[Sums],
     outstandings: &[i64],
     future: &mut [i64],
@@ -235,43 +184,62 @@ fn project(
     let mut next = 0;
     for ((r, row), &outstanding) in rows.iter_mut().enumerate().zip(outstandings) {
         row.outstanding = outstanding * ONE_UNIT;
-        row.incurred = row.outstanding;
         row.next = next;
         next += 3 * r;
     }
     for (seen, sums) in (1..rows.len()).rev().zip(sums) {
+        let year = Year::<R>::ready(sums);
         for row in &mut rows[seen..] {
-            let Some((payment, adjustment, outstanding)) = next_year(&share, row.outstanding, sums)
-            else {
+            let Some((payment, adjustment, outstanding)) = year.figures(row.outstanding) else {
                 return false;
             };
             future[row.next..row.next + 3].copy_from_slice(&[payment, adjustment, outstanding]);
             row.outstanding = outstanding;
             row.paid += payment;
-            row.incurred += adjustment;
             row.next += 3;
         }
     }
     for (row, reserve) in rows.iter().zip(reserves.chunks_exact_mut(3)) {
-        reserve.copy_from_slice(&[row.paid, row.incurred, row.outstanding]);
+        // Incurred less paid is the closing outstanding.
+        let incurred = row.paid + row.outstanding;
+        reserve.copy_from_slice(&[row.paid, incurred, row.outstanding]);
     }
     true
 }
 
-/// The payment, the adjustment and the outstanding that they lead to, or none where one is too large.
-#[inline(always)]
-fn next_year(
-    share: impl Fn(i64, i64, i64) -> Option<i64>,
-    outstanding: i64,
-    sums: &Sums,
-) -> Option<(i64, i64, i64)> {
-    let payment = share(outstanding, sums.payments, sums.exposure)?;
-    let adjustment = share(outstanding, sums.adjustments, sums.exposure)?;
-    let next = outstanding - payment + adjustment;
-    if next.abs() > GREATEST_FIGURE {
-        return None;
+/// A development year prepared for projecting.
+struct Year<R> {
+    payments: R,
+    adjustments: R,
+    reach: i64,
+}
+
+impl<R: Ratio> Year<R> {
+    #[inline(always)]
+    fn ready(sums: &Sums) -> Self {
+        let [payments, adjustments] = R::ready([sums.payments, sums.adjustments], sums.exposure);
+        Year {
+            reach: payments.reach().min(adjustments.reach()),
+            payments,
+            adjustments,
+        }
     }
-    Some((payment, adjustment, next))
+
+    /// The payment, the adjustment and the outstanding that they lead to, or none where one is too large.
+    #[inline(always)]
+    fn figures(&self, outstanding: i64) -> Option<(i64, i64, i64)> {
+        if outstanding > self.reach {
+            return None;
+        }
+        let payment = self.payments.share(outstanding)?;
+        let adjustment = self.adjustments.share(outstanding)?;
+        let next = outstanding - payment + adjustment;
+        // It is never below 0, so that one comparison without a sign is enough.
+        if !(0..=GREATEST_FIGURE).contains(&next) {
+            return None;
+        }
+        Some((payment, adjustment, next))
+    }
 }
 
 // ---- Refusals
@@ -347,16 +315,12 @@ fn first_outstanding(n: usize, cut: usize, triangle: &Triangle) -> Option<(usize
 /// The first refusal of question 9, row by row, which refuses.
 #[cold]
 #[inline(never)]
-fn refusal_in_projection(
-    share: impl Fn(i64, i64, i64) -> Option<i64>,
-    sums: &[Sums],
-    outstandings: &[i64],
-) -> Refusal {
+fn refusal_in_projection<R: Ratio>(sums: &[Sums], outstandings: &[i64]) -> Refusal {
     for (i, &last) in (1..).zip(outstandings) {
         let last_seen = outstandings.len() + 1 - i;
         let mut outstanding = last * ONE_UNIT;
         for (k, sums) in (last_seen + 1..).zip(&sums[last_seen - 1..]) {
-            let Some((_, _, next)) = next_year(&share, outstanding, sums) else {
+            let Some((_, _, next)) = Year::<R>::ready(sums).figures(outstanding) else {
                 return refusal(Question::ProjectedFigureTooLarge, i, k);
             };
             outstanding = next;

@@ -1,8 +1,8 @@
 //! How long each version takes, and how that grows with n.
 
 use std::hint::black_box;
-use std::time::Instant;
 
+use crate::clock::{median, nanoseconds_of};
 use crate::inputs::{Call, FAMILIES};
 use crate::{Case, Version, SIZES, TRIANGLES, VERSIONS};
 
@@ -16,21 +16,34 @@ type Times = [f64; VERSIONS.len()];
 /// Times every case and prints the tables.
 pub fn print(cases: &[Case]) {
     let times = median_times(cases);
-    println!("\ntriangles a second, median of {ROUNDS} rounds over {TRIANGLES} triangles; the ratio is the time of the proved call over that of the faster one in Rust");
+    println!("\ntriangles a second, median of {ROUNDS} rounds over {TRIANGLES} triangles, and the time of the proved call over that of the faster dividing one (i128, u128) and over that of the prepared one");
     print!("{:>4} {:<18}", "n", "family");
     for (name, _) in VERSIONS {
         print!(" {name:>9}");
     }
-    println!(" {:>9}", "ratio");
+    println!(" {:>9} {:>9}", "/dividing", "/prepared");
     for (case, times) in cases.iter().zip(&times) {
         print!("{:>4} {:<18}", case.n, case.family);
         for nanoseconds in times {
             print!(" {:>9.0}", 1e9 / nanoseconds);
         }
-        println!(" {:>9.2}", proved(times) / faster_in_rust(times));
+        let proved = proved(times);
+        println!(
+            " {:>9.2} {:>9.2}",
+            proved / dividing(times),
+            proved / prepared(times)
+        );
     }
     print_growth(&times);
 }
+
+type TimeOf = fn(&Times) -> f64;
+
+const GROWING: [(&str, TimeOf); 3] = [
+    ("proved", proved),
+    ("dividing", dividing),
+    ("prepared", prepared),
+];
 
 /// The cases stand by size, then by family.
 fn print_growth(times: &[Times]) {
@@ -47,13 +60,12 @@ fn print_growth(times: &[Times]) {
     print_growth_of(|size| cells(SIZES[size]));
     println!();
     for (place, family) in FAMILIES.iter().enumerate() {
-        let of_size = |size: usize| &times[size * FAMILIES.len() + place];
-        print!("{:<18} {:<8}", family.name, "proved");
-        print_growth_of(|size| proved(of_size(size)));
-        print_by_cell(|size| proved(of_size(size)));
-        print!("{:<18} {:<8}", family.name, "in Rust");
-        print_growth_of(|size| faster_in_rust(of_size(size)));
-        print_by_cell(|size| faster_in_rust(of_size(size)));
+        for (name, time) in GROWING {
+            let of_size = |size: usize| time(&times[size * FAMILIES.len() + place]);
+            print!("{:<18} {name:<8}", family.name);
+            print_growth_of(of_size);
+            print_by_cell(of_size);
+        }
     }
 }
 
@@ -70,12 +82,19 @@ fn print_by_cell(time: impl Fn(usize) -> f64) {
     println!();
 }
 
+// By their places among the versions.
+
 fn proved(times: &Times) -> f64 {
     times[0]
 }
 
-fn faster_in_rust(times: &Times) -> f64 {
-    times[1..].iter().copied().fold(f64::INFINITY, f64::min)
+/// Of the two that divide for every share, the faster.
+fn dividing(times: &Times) -> f64 {
+    times[1].min(times[2])
+}
+
+fn prepared(times: &Times) -> f64 {
+    times[3]
 }
 
 fn cells(n: usize) -> f64 {
@@ -110,12 +129,5 @@ fn nanoseconds(calls: &[Call], version: Version) -> f64 {
         }
     };
     run(1);
-    let start = Instant::now();
-    run(times);
-    start.elapsed().as_nanos() as f64 / (times * calls.len()) as f64
-}
-
-fn median(mut times: Vec<f64>) -> f64 {
-    times.sort_by(f64::total_cmp);
-    times[times.len() / 2]
+    nanoseconds_of(|| run(times)) / (times * calls.len()) as f64
 }

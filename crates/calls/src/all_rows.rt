@@ -6,6 +6,7 @@ ghost use Rattle.verdicts.specs.Verdicts.{verdict-of};
 ghost use Rattle.projected_rows.specs.ProjectedRows.{Projectable, RowsProjected};
 use projected_rows::project_row;
 use projection::lists::write_three;
+use projection::prepared::prepared_years;
 use ratios::Development;
 use verdicts::verdict::Verdict;
 
@@ -23,11 +24,12 @@ pub(crate) fn project(
     ensures { λ _. ⌜ (length (now (future .exit)) ≡ length (now (future .entry))) × (length (now (reserves .exit)) ≡ length (now (reserves .entry))) ⌝ }
 {
     let ratios = development.ratios;
+    let years = prepared_years(n, ratios);
     let outstandings = development.outstandings;
     let mut future_at = 0;
     let mut r = 0;
     while r < n {
-        let row = project_row(n, r + 1, ratios, outstandings[r], future, future_at);
+        let row = project_row(n, r + 1, &years, outstandings[r], future, future_at);
         let verdict = row.verdict;
         let Verdict::Accepted = verdict else {
             return verdict;

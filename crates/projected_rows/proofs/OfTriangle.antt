@@ -101,8 +101,12 @@ module _ {t : Triangle} {ratios : List Sums} {outstandings : List ℤ} (d : Deve
 
   pub projectable : Observed t → ((k : ℕ) → 1 ≤ k → k < n t → pos 0 <ℤ sums t k .D) → Projectable (n t) ratios outstandings
   projectable ok exposure = record {
-    most = ok .years .most;
-    year = λ j h. rw (d .year j h) (right (j + 1) (omega arith) h);
+    ratios-in-range = record {
+      most = ok .years .most;
+      year = λ j h. rw (d .year j h) (right (j + 1) (omega arith) h);
+      beyond = d .year-beyond;
+      long = d .ratios-long;
+    };
     outstanding = λ r h. rw (d .outstanding r h) (R-in-range t ok (r + 1) (n t - r) (omega arith) (omega arith));
   }
     where

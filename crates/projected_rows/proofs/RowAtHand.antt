@@ -19,7 +19,7 @@ module _ {n : ℕ} {ratios : List Sums} {outstandings : List ℤ} (ok : Projecta
 
   pub row-input : RowInput n ratios (r + 1) units
   row-input = record {
-    row = record { first = omega arith; last = omega arith; most = ok .most; year = ok .year };
+    row = record { first = omega arith; last = omega arith; most = ok .ratios-in-range .most; year = ok .ratios-in-range .year };
     observed-nonneg = ok .outstanding r more .0;
     observed-most = ok .outstanding r more .1;
   }

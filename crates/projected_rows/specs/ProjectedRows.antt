@@ -19,6 +19,7 @@ use Rattle.verdicts.specs.Verdicts.{verdict-of}
 use Rattle.ratios.specs.declared.Sums.{Sums}
 use Rattle.ratios.specs.Ratios.{sums-of, no-sums}
 use Rattle.method.specs.SumLimits.{SumsInRange}
+use Rattle.projection.specs.Prepared.{RatiosInRange}
 use Rattle.projected_rows.specs.declared.ProjectedRow.{ProjectedRow}
 
 -- the sums at a place of the ratios; those of development year k stand at k − 1
@@ -102,8 +103,7 @@ pub record RowInput (n : ℕ) (ratios : List Sums) (i : ℕ) (observed : ℤ) : 
 
 -- what questions 1 to 8 leave
 pub record Projectable (n : ℕ) (ratios : List Sums) (outstandings : List ℤ) : Type 0 where
-  pub most : n ≤ most-accident-years
-  pub year : (j : ℕ) → j + 1 < n → SumsInRange (sums-at ratios j)
+  pub ratios-in-range : RatiosInRange n ratios
   pub outstanding : (r : ℕ) → r < n → (pos 0 ≤ℤ getD outstandings r (pos 0)) × (getD outstandings r (pos 0) ≤ℤ greatest-outstanding)
 
 -- a sum of some figures within the limit of question 9, and one more of them

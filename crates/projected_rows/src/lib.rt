@@ -4,11 +4,13 @@ ghost use Prim.Native.Nat.{_+_, _*_, _-_, _≤_};
 ghost use lib.IntN.{pos, _+ℤ_, _*ℤ_};
 ghost use lib.ListN.{length};
 ghost use Rattle.method.specs.Limits.{one-unit};
+ghost use Rattle.projection.specs.Prepared.{YearsReady, ratios-of};
 ghost use Rattle.projected_rows.specs.ProjectedRows.{RowInput, RowProjected, FigureAddable};
 use projection::lists::write_three;
+use projection::prepared::NUMBERS_OF_A_YEAR;
+use projection::prepared::year_at;
 use projection::year::ProjectedYear;
 use projection::year::next_year;
-use ratios::Sums;
 use share::millionths::Millionths;
 use verdicts::limits::DEVELOPMENT_YEARS;
 use verdicts::verdict::Verdict;
@@ -27,14 +29,14 @@ pub struct ProjectedRow {
 pub fn project_row(
     n: usize,
     i: usize,
-    ratios: [Sums; DEVELOPMENT_YEARS],
+    years: &[[u64; NUMBERS_OF_A_YEAR]; DEVELOPMENT_YEARS],
     observed: i64,
     future: &mut [i64],
     start: usize,
 ) -> ProjectedRow
-    requires { ⌜ RowInput n ratios i observed ⌝ }
+    requires { ⌜ YearsReady n (now years) × RowInput n (ratios-of (now years)) i observed ⌝ }
     requires { ⌜ start + 3 * (i - 1) ≤ length (now future) ⌝ }
-    ensures { λ r. ⌜ RowProjected n ratios i (observed *ℤ one-unit) start (now (future .entry)) r (now (future .exit)) ⌝ }
+    ensures { λ r. ⌜ RowProjected n (ratios-of (now (years .entry))) i (observed *ℤ one-unit) start (now (future .entry)) r (now (future .exit)) ⌝ }
 {
     let mut outstanding = Millionths::from_units(observed);
     let mut paid = Millionths(0);
@@ -42,9 +44,9 @@ pub fn project_row(
     let mut at = start;
     let mut j = 0;
     while j + 1 < i {
-        // The sums of development year k stand at k − 1, and lead to year k + 1.
+        // The ratios of development year k stand at k − 1, and lead to year k + 1.
         let place = n - i + j;
-        let year = next_year(outstanding, ratios[place]);
+        let year = next_year(outstanding, year_at(years, place));
         let ProjectedYear::Within(movement) = year else {
             return refused_row(refusal_at(9, i, place + 2));
         };

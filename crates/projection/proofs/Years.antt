@@ -13,7 +13,6 @@ use Rattle.integers.proofs.LinearFacts.{integers, fits-by}
 use Rattle.integers.proofs.RingSolver.{con, _:+_, _:-_}
 use Rattle.integers.proofs.Order.{natAbs-parts}
 use Rattle.integers.proofs.MachineArithmetic.{fits-natAbs}
-use Rattle.method.specs.SumLimits.{greatest-sum}
 use Rattle.method.specs.Limits.{greatest-figure}
 use Rattle.method.specs.Outstandings.{Sums}
 use Rattle.method.specs.ProjectedYear.{Movement, share, next-year}
@@ -21,7 +20,7 @@ use Rattle.method.specs.Tests.{figure-in-range}
 use Rattle.method.specs.Questions.{figures-in-range}
 use Rattle.method.proofs.QuestionFacts.{FiguresInRange, figures-in-range-true}
 use Rattle.method.proofs.Projection.{next-nonneg}
-use Rattle.share.specs.Share.{ShareInput, greatest-size}
+use Rattle.share.specs.Share.{greatest-size}
 use Rattle.share.specs.Share as answer
 use Rattle.share.specs.declared.Share.the-variants as variants
 use Rattle.share.specs.declared.millionths.Millionths.{Millionths}
@@ -30,16 +29,6 @@ use Rattle.projection.specs.declared.year.Movement as code
 use Rattle.projection.specs.declared.year.ProjectedYear.{ProjectedYear}
 use Rattle.projection.specs.declared.year.ProjectedYear.the-variants.{Within, TooLarge}
 use Rattle.projection.specs.Year.{ProjectedYearInput, year-or-too-large, movement-of}
-
--- P or Q, with the outstanding and D, as a share is asked of
-pub share-input : {r : ℤ} {s : Sums} → ProjectedYearInput r s → (part : ℤ) → natAbs part ≤ greatest-sum → ShareInput r part (s .D)
-share-input y part h = record {
-  outstanding-nonneg = y .outstanding-nonneg;
-  outstanding-most = y .outstanding-most;
-  part-size = h;
-  exposure-positive = y .sums-in-range .D-positive;
-  exposure-most = y .sums-in-range .D-most;
-}
 
 -- ---- The answer
 
@@ -153,10 +142,6 @@ module _ {r : ℤ} {s : Sums} (y : ProjectedYearInput r s) where
 
 -- ---- Within 64 bits
 
--- P or Q
-pub part-fits : (part : ℤ) → natAbs part ≤ greatest-sum → SFits w64 part
-part-fits part h = fits-natAbs w64 part greatest-sum h (lit< tt)
-
 -- an outstanding, its year's payment and adjustment, and what they make
 pub record NumbersFit (r x z : ℤ) : Type 0 where
   pub outstanding : SFits w64 r
@@ -166,9 +151,6 @@ pub record NumbersFit (r x z : ℤ) : Type 0 where
   pub next : SFits w64 (r -ℤ x +ℤ z)
 
 module _ {r : ℤ} {s : Sums} (y : ProjectedYearInput r s) where
-  pub exposure-fits : SFits w64 (s .D)
-  exposure-fits = fits-by w64 (con (s .D)) (omega (arith, integers, y .sums-in-range .D-positive, y .sums-in-range .D-most))
-
   pub numbers-fit : {x z : Millionths} → variants.Rounded x ≡ answer.share-or-too-large (share r (s .P) (s .D)) → variants.Rounded z ≡ answer.share-or-too-large (share r (s .Q) (s .D))
       → NumbersFit r (x .0) (z .0)
   numbers-fit {x} {z} p a =

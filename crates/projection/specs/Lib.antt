@@ -1,2 +1,3 @@
--- What the contracts of this crate say, in the words of the crate `method`.
+-- What the functions of this crate ask and answer.
+pub mod Prepared
 pub mod Year

@@ -2,8 +2,9 @@
 ghost use mathlib.Core.Path.{_≡_};
 ghost use Rattle.method.specs.ProjectedYear.{next-year};
 ghost use Rattle.ratios.specs.Ratios.{sums-of};
+ghost use Rattle.projection.specs.Prepared.{YearReady, year-sums};
 ghost use Rattle.projection.specs.Year.{ProjectedYearInput, year-or-too-large};
-use ratios::Sums;
+use crate::prepared::PreparedYear;
 use share::Share;
 use share::millionths::Millionths;
 use share::rounded_share;
@@ -22,17 +23,19 @@ pub enum ProjectedYear {
     TooLarge,
 }
 
-// The year after one that ends with this outstanding and has these sums, or that a figure of it passes the limit of question 9.
-pub fn next_year(outstanding: Millionths, sums: Sums) -> ProjectedYear
-    requires { ⌜ ProjectedYearInput (outstanding .0) (sums-of sums) ⌝ }
-    ensures { λ r. ⌜ r ≡ year-or-too-large (next-year (outstanding .0) (sums-of sums)) ⌝ }
+// The year after one that ends with this outstanding and has these ratios, or that a figure of it passes the limit of question 9.
+pub fn next_year(outstanding: Millionths, year: PreparedYear) -> ProjectedYear
+    requires { ⌜ YearReady year × ProjectedYearInput (outstanding .0) (sums-of (year-sums year)) ⌝ }
+    ensures { λ r. ⌜ r ≡ year-or-too-large (next-year (outstanding .0) (sums-of (year-sums year))) ⌝ }
 {
-    let exposure = sums.exposure;
-    let paid = rounded_share(outstanding, sums.payments, exposure);
+    let exposure = year.exposure;
+    let payments = year.payments;
+    let adjustments = year.adjustments;
+    let paid = rounded_share(outstanding, payments, exposure);
     let Share::Rounded(payment) = paid else {
         return ProjectedYear::TooLarge;
     };
-    let adjusted = rounded_share(outstanding, sums.adjustments, exposure);
+    let adjusted = rounded_share(outstanding, adjustments, exposure);
     let Share::Rounded(adjustment) = adjusted else {
         return ProjectedYear::TooLarge;
     };

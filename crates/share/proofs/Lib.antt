@@ -1,5 +1,9 @@
--- The laws of a share: its division, its sign, its rounding.
-pub mod LongDivision
+-- The laws of a share: its products, its prepared ratio, its exact remainder, its answer.
+pub mod Columns
+pub mod Estimates
+pub mod Reciprocal
 pub mod Signs
-pub mod Halves
+pub mod Ratios
+pub mod ExactRemainder
 pub mod Answers
+pub mod WholeShare

@@ -1,4 +1,4 @@
 -- What the functions of this crate ask and answer.
+pub mod Ratio
 pub mod Share
-pub mod Signs
-pub mod LongDivision
+pub mod NearestQuotient

@@ -1,21 +1,20 @@
 -- What a share is asked of, and its answer.
-use Prim.Native.Nat.{ℕ, _≤_}
+use Prim.Native.Nat.{ℕ}
 use mathlib.Core.Bool.{Bool, true, false}
 use lib.IntN.{ℤ, pos, natAbs}
-use lib.Signed.{_≤ℤ_, _<ℤ_}
+use lib.Signed.{_≤ℤ_}
 use Rattle.method.specs.Limits.{greatest-figure}
 use Rattle.method.specs.Tests.{figure-in-range}
-use Rattle.method.specs.SumLimits.{greatest-sum}
+use Rattle.share.specs.declared.ratio.Ratio.{Ratio}
 use Rattle.share.specs.declared.Share.{Share}
 use Rattle.share.specs.declared.Share.the-variants.{Rounded, TooLarge}
+use Rattle.share.specs.Ratio.{Ready}
 
--- An outstanding within the limit of question 9, P or Q, and D, which question 8 has found above 0.
-pub record ShareInput (outstanding part exposure : ℤ) : Type 0 where
+-- An outstanding within the limit of question 9, and a ratio to this exposure.
+pub record ShareInput (outstanding : ℤ) (ratio : Ratio) (exposure : ℕ) : Type 0 where
   pub outstanding-nonneg : pos 0 ≤ℤ outstanding
   pub outstanding-most : outstanding ≤ℤ greatest-figure
-  pub part-size : natAbs part ≤ greatest-sum
-  pub exposure-positive : pos 0 <ℤ exposure
-  pub exposure-most : exposure ≤ℤ pos greatest-sum
+  pub ready : Ready ratio exposure
 
 -- The limit of question 9, as a natural.
 abbrev pub greatest-size : ℕ

@@ -1,2 +1,3 @@
--- The law that the benchmark's call needs.
-pub mod Ranges
+-- Laws of the benchmark's calls.
+pub mod InPlace
+pub mod InLimits

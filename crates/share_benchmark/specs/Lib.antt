@@ -1,2 +1,2 @@
--- What the benchmark's call answers.
-pub mod ShareAnswer
+-- What the calls of the benchmark answer.
+pub mod Shares

@@ -38,7 +38,7 @@ module _ {n : ℕ} {ratios : List Sums} {outstandings : List ℤ} {i k : ℕ} (a
 
   pub row-of-cell : RowInput n ratios i (getD outstandings (i - 1) (pos 0))
   row-of-cell = record {
-    row = record { first = omega (arith, a .first); last = a .last; most = a .readable .most; year = a .readable .year };
+    row = record { first = omega (arith, a .first); last = a .last; most = a .readable .ratios-in-range .most; year = a .readable .ratios-in-range .year };
     observed-nonneg = a .readable .outstanding (i - 1) (omega (arith, a .first, a .last)) .0;
     observed-most = a .readable .outstanding (i - 1) (omega (arith, a .first, a .last)) .1;
   }
@@ -56,10 +56,10 @@ module _ {n : ℕ} {ratios : List Sums} {outstandings : List ℤ} {i k : ℕ} (a
       record {
         first = omega (arith, a .last);
         later = omega (arith, a .unseen);
-        most = omega (arith, a .last-year, a .readable .most);
+        most = omega (arith, a .last-year, a .readable .ratios-in-range .most);
         observed-nonneg = m .observed-nonneg;
         observed-most = m .observed-most;
-        sums-in-range = λ j h. a .readable .year j (omega (arith, a .last-year));
+        sums-in-range = λ j h. a .readable .ratios-in-range .year j (omega (arith, a .last-year));
         within = λ j h.
             let e : n + 1 - i - 1 ≡ n - i = omega (arith, a .last) in
             ap (λ (x : ℕ). figures-in-range (projected-year ratios x (observed-of n ratios outstandings i) (j + 1))) e

@@ -8,19 +8,22 @@ ghost use Rattle.method.specs.Demand1.{Demand-1-of-cell};
 ghost use Rattle.method.specs.Demand3.{CellOfFuture};
 ghost use Rattle.verdicts.specs.Verdicts.{verdict-of};
 ghost use Rattle.questions.specs.Inputs.{triangle-of};
+ghost use Rattle.projection.specs.Prepared.{YearsReady, ratios-of};
 ghost use Rattle.projection.specs.Year.{movement-of};
 ghost use Rattle.projected_rows.specs.ProjectedRows.{Projectable, verdict-of-row};
 ghost use Rattle.single_cell.specs.Cells.{CellInput, outstanding-of, movement-of-year, CellAccepted, cell-movement};
 ghost use Rattle.single_cell.specs.Answers.{cell-of, accepted-cell, refused-cell};
 use projected_rows::project_row;
+use projection::prepared::NUMBERS_OF_A_YEAR;
+use projection::prepared::prepared_years;
+use projection::prepared::year_at;
 use projection::year::Movement;
 use projection::year::ProjectedYear;
 use projection::year::next_year;
 use questions::inputs::AnswerLists;
-use ratios::Development;
-use ratios::Sums;
 use share::millionths::Millionths;
 use triangle::reading::read;
+use verdicts::limits::ACCIDENT_YEARS;
 use verdicts::limits::DEVELOPMENT_YEARS;
 use verdicts::limits::from_to;
 use verdicts::verdict::Verdict;
@@ -71,7 +74,10 @@ pub fn single_cell<'a>(
     };
     let development = reading.development;
     let n = years as usize;
-    let projected = question_9(n, development);
+    let ratios = development.ratios;
+    let prepared = prepared_years(n, ratios);
+    let outstandings = development.outstandings;
+    let projected = question_9(n, &prepared, outstandings);
     let Verdict::Accepted = projected else {
         return refused(projected);
     };
@@ -81,7 +87,8 @@ pub fn single_cell<'a>(
     };
     cell_of(
         n,
-        development,
+        &prepared,
+        outstandings,
         accident_year as usize,
         development_year as usize,
     )
@@ -113,16 +120,18 @@ fn cell_unseen(years: i64, accident_year: i64, development_year: i64) -> bool
 // ---- Question 9
 
 // The first refusal of question 9, if there is one. Each accident year is projected into a list of its own.
-fn question_9(n: usize, development: Development) -> Verdict
-    requires { ⌜ Projectable n (development .ratios) (development .outstandings) ⌝ }
-    ensures { λ r. ⌜ verdict-of r ≡ first-to n (verdict-of-row n (development .ratios) (development .outstandings)) ⌝ }
+fn question_9(
+    n: usize,
+    years: &[[u64; NUMBERS_OF_A_YEAR]; DEVELOPMENT_YEARS],
+    outstandings: [i64; ACCIDENT_YEARS],
+) -> Verdict
+    requires { ⌜ YearsReady n (now years) × Projectable n (ratios-of (now years)) outstandings ⌝ }
+    ensures { λ r. ⌜ verdict-of r ≡ first-to n (verdict-of-row n (ratios-of (now (years .entry))) outstandings) ⌝ }
 {
-    let ratios = development.ratios;
-    let outstandings = development.outstandings;
     let mut figures = [0; FIGURES_OF_A_ROW];
     let mut r = 0;
     while r < n {
-        let row = project_row(n, r + 1, ratios, outstandings[r], &mut figures, 0);
+        let row = project_row(n, r + 1, years, outstandings[r], &mut figures, 0);
         let verdict = row.verdict;
         let Verdict::Accepted = verdict else {
             return verdict;
@@ -138,14 +147,18 @@ const FIGURES_OF_A_ROW: usize = 3 * DEVELOPMENT_YEARS;
 // ---- The cell
 
 // Cell (i, k) of an accepted triangle.
-fn cell_of(n: usize, development: Development, i: usize, k: usize) -> Cell
-    requires { ⌜ CellAccepted n (development .ratios) (development .outstandings) i k ⌝ }
-    ensures { λ r. ⌜ cell-of r ≡ accepted-cell (cell-movement n (development .ratios) (development .outstandings) i k) ⌝ }
+fn cell_of(
+    n: usize,
+    years: &[[u64; NUMBERS_OF_A_YEAR]; DEVELOPMENT_YEARS],
+    outstandings: [i64; ACCIDENT_YEARS],
+    i: usize,
+    k: usize,
+) -> Cell
+    requires { ⌜ YearsReady n (now years) × CellAccepted n (ratios-of (now years)) outstandings i k ⌝ }
+    ensures { λ r. ⌜ cell-of r ≡ accepted-cell (cell-movement n (ratios-of (now (years .entry))) outstandings i k) ⌝ }
 {
-    let ratios = development.ratios;
-    let outstandings = development.outstandings;
     let observed = Millionths::from_units(outstandings[i - 1]);
-    let movement = movement(ratios, n + 1 - i, observed, k);
+    let movement = movement(years, n + 1 - i, observed, k);
     let payment = movement.payment;
     let adjustment = movement.adjustment;
     let outstanding = movement.outstanding;
@@ -159,33 +172,33 @@ fn cell_of(n: usize, development: Development, i: usize, k: usize) -> Cell
 
 // The outstanding of a year is taken from that year's movement, and the movement from the outstanding before it.
 fn outstanding(
-    ratios: [Sums; DEVELOPMENT_YEARS],
+    years: &[[u64; NUMBERS_OF_A_YEAR]; DEVELOPMENT_YEARS],
     last: usize,
     observed: Millionths,
     year: usize,
 ) -> Millionths
-    requires { ⌜ CellInput ratios last (observed .0) year ⌝ }
-    ensures { λ r. ⌜ r .0 ≡ outstanding-of ratios last (observed .0) year ⌝ }
+    requires { ⌜ YearsReady year (now years) × CellInput (ratios-of (now years)) last (observed .0) year ⌝ }
+    ensures { λ r. ⌜ r .0 ≡ outstanding-of (ratios-of (now (years .entry))) last (observed .0) year ⌝ }
 {
     if year == last {
         observed
     } else {
-        let movement = movement(ratios, last, observed, year);
+        let movement = movement(years, last, observed, year);
         movement.outstanding
     }
 }
 
 fn movement(
-    ratios: [Sums; DEVELOPMENT_YEARS],
+    years: &[[u64; NUMBERS_OF_A_YEAR]; DEVELOPMENT_YEARS],
     last: usize,
     observed: Millionths,
     year: usize,
 ) -> Movement
-    requires { ⌜ CellInput ratios last (observed .0) year × (last < year) ⌝ }
-    ensures { λ r. ⌜ r ≡ movement-of (movement-of-year ratios last (observed .0) year) ⌝ }
+    requires { ⌜ YearsReady year (now years) × CellInput (ratios-of (now years)) last (observed .0) year × (last < year) ⌝ }
+    ensures { λ r. ⌜ r ≡ movement-of (movement-of-year (ratios-of (now (years .entry))) last (observed .0) year) ⌝ }
 {
-    let before = outstanding(ratios, last, observed, year - 1);
-    let projected = next_year(before, ratios[year - 2]);
+    let before = outstanding(years, last, observed, year - 1);
+    let projected = next_year(before, year_at(years, year - 2));
     let ProjectedYear::Within(movement) = projected else {
         return NO_MOVEMENT;
     };

@@ -22,6 +22,9 @@ pub const ACCIDENT_YEARS: usize = MOST_YEARS as usize;
 
 pub const DEVELOPMENT_YEARS: usize = ACCIDENT_YEARS - 1;
 
+// Of a sum over the accident years, which document 01 does not print: a weight times an amount or an outstanding for each of them but the youngest.
+pub const GREATEST_SUM: i64 = (MOST_YEARS - 1) * GREATEST_WEIGHT * GREATEST_AMOUNT;
+
 // Whether low ≤ x ≤ high.
 pub fn from_to(low: i64, high: i64, x: i64) -> bool
     ensures { λ r. ⌜ r ≡ from-to low high x ⌝ }

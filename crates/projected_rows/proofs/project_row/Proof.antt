@@ -2,24 +2,28 @@
 use borrow.Author.Needs.{needs}
 use native.Mathlib.Omega.{arith}
 use mathlib.Core.Path.{_≡_, sym, _∙_}
-use Prim.Native.Nat.{_+_, _-_, _<_}
+use mathlib.Core.List.{[]}
+use lib.ListN.{getD}
+use Prim.Native.Nat.{ℕ, _+_, _-_, _<_}
 use lib.IntN.{_*ℤ_}
 use mir.Facts.{toZ-ofZ}
 use Rattle.method.specs.Limits.{one-unit}
 use Rattle.method.specs.ProjectedYear.{next-year}
 use Rattle.projection.specs.declared.year.ProjectedYear.the-variants.{Within}
+use Rattle.projection.specs.Prepared.{YearReady, year-of, ratios-of}
 use Rattle.projection.specs.Year.{year-or-too-large}
+use Rattle.projection.proofs.PreparedYears.{sums-at-place, projected-by-place}
 use Rattle.projected_rows.specs.ProjectedRows.{sums-at}
 use Rattle.projected_rows.proofs.RowLoop.{RowInMillionths, in-millionths, units-small, RowSoFar, no-year-projected, year-input, year-refused, zeros-answered, written-before-refusal, paid-addable, incurred-addable, three-fit, one-more-year, same-length as row-length, room, row-accepted, row-written, row-summed}
 use Rattle.projected_rows.proofs.project_row.Statement.{statement}
 use Rattle.projected_rows.proofs.project_row.Tie as tie
 
 abbrev Inv-loop : tie.InvT-loop
-Inv-loop n i observed future₀ start ratios outstanding₀ paid₀ incurred₀ at₀ j₀ future outstanding paid incurred at j =
-    RowSoFar n ratios i (outstanding₀ .0) start future₀ future (outstanding .0) (paid .0) (incurred .0) at j
+Inv-loop n i years observed future₀ start outstanding₀ paid₀ incurred₀ at₀ j₀ future outstanding paid incurred at j =
+    RowSoFar n (ratios-of years) i (outstanding₀ .0) start future₀ future (outstanding .0) (paid .0) (incurred .0) at j
 
 abbrev μ-loop : tie.MeasureT-loop
-μ-loop n i observed future₀ start ratios outstanding₀ paid₀ incurred₀ at₀ j₀ future outstanding paid incurred at j = i - (j + 1)
+μ-loop n i years observed future₀ start outstanding₀ paid₀ incurred₀ at₀ j₀ future outstanding paid incurred at j = i - (j + 1)
 
 -- the turn of the loop in which a year is projected, and where the code began
 abbrev turn : tie.After-next-year Inv-loop μ-loop → tie.In-loop Inv-loop μ-loop
@@ -35,20 +39,30 @@ start c = begun c .before
 units-are : (c : tie.After-from-units Inv-loop μ-loop) → c .from-units .result .0 ≡ c .before .args .observed *ℤ one-unit
 units-are c = simp (toZ-ofZ (c .before .fits .observed)) at (c .from-units .ensures)
 
-input : (c : tie.After-from-units Inv-loop μ-loop) → let a = c .before .args in RowInMillionths (a .n) (a .t3) (a .i) (c .from-units .result .0)
-input c = rw (units-are c) (in-millionths (c .before .pre .0))
+input : (c : tie.After-from-units Inv-loop μ-loop) → let a = c .before .args in RowInMillionths (a .n) (ratios-of (a .years .now)) (a .i) (c .from-units .result .0)
+input c = rw (units-are c) (in-millionths (c .before .pre .0 .1))
 
 few : (c : tie.After-next-year Inv-loop μ-loop) → turn c .before .loop .j < 32
-few c = omega (arith, start c .pre .0 .row .last, start c .pre .0 .row .most)
+few c = omega (arith, start c .pre .0 .1 .row .last, start c .pre .0 .1 .row .most)
+
+-- the place of the year at hand
+abbrev place : tie.In-loop Inv-loop μ-loop → ℕ
+place t = let a = t .before .before .before .args in a .n - a .i + t .before .loop .j
+
+-- the year at hand, by the sums that it was prepared from
+year-is : (c : tie.After-next-year Inv-loop μ-loop) →
+    c .next-year .result ≡ year-or-too-large (next-year (turn c .before .loop .outstanding .0) (sums-at (ratios-of (start c .args .years .now)) (place (turn c))))
+year-is c =
+    (rw (c .before .year-at .ensures) at (c .next-year .ensures))
+    ∙ projected-by-place (λ s. year-or-too-large (next-year (turn c .before .loop .outstanding .0) s)) (start c .args .years .now) (place (turn c))
 
 -- a year within the limit
 within : (c : tie.After-year Inv-loop μ-loop) → let y = c .before .before in
-    Within (c .year .given .0 .0)
-    ≡ year-or-too-large (next-year (turn y .before .loop .outstanding .0) (sums-at (start y .args .t3) (start y .args .n - start y .args .i + turn y .before .loop .j)))
-within c = sym (c .year .given .1) ∙ c .before .before .next-year .ensures
+    Within (c .year .given .0 .0) ≡ year-or-too-large (next-year (turn y .before .loop .outstanding .0) (sums-at (ratios-of (start y .args .years .now)) (place (turn y))))
+within c = sym (c .year .given .1) ∙ year-is (c .before .before)
 
 from-units-requires : tie.Need-from-units-requires Inv-loop μ-loop
-from-units-requires c κs = simp (toZ-ofZ (c .fits .observed)) (omega (arith, units-small (c .pre .0)))
+from-units-requires c κs = simp (toZ-ofZ (c .fits .observed)) (omega (arith, units-small (c .pre .0 .1)))
 
 loop-holds : tie.Need-loop-holds Inv-loop μ-loop
 loop-holds c = no-year-projected (input c) _ _
@@ -57,19 +71,23 @@ add-loop : tie.Need-add-loop Inv-loop μ-loop
 add-loop c = search needs
 
 sub-place : tie.Need-sub-place Inv-loop μ-loop
-sub-place c = c .before .before .before .pre .0 .row .last
+sub-place c = c .before .before .before .pre .0 .1 .row .last
 
 add-place : tie.Need-add-place Inv-loop μ-loop
-add-place c = let a = c .before .before .before .pre .0 .row .last in let b = c .before .before .before .pre .0 .row .most in search needs
+add-place c = let a = c .before .before .before .pre .0 .1 .row .last in let b = c .before .before .before .pre .0 .1 .row .most in search needs
 
-mul-next-year : tie.Need-mul-next-year Inv-loop μ-loop
-mul-next-year c = search needs
+-- the year at hand is ready
+ready : (t : tie.In-loop Inv-loop μ-loop) → YearReady (year-of (getD (t .before .before .before .args .years .now) (place t) []))
+ready t = let s = t .before .before .before in let last = s .pre .0 .1 .row .last in s .pre .0 .0 .year (place t) (omega arith)
 
-array-copy-out-next-year : tie.Need-array-copy-out-next-year Inv-loop μ-loop
-array-copy-out-next-year c = search needs
+year-at-requires : tie.Need-year-at-requires Inv-loop μ-loop
+year-at-requires c κs = let row = c .before .before .before .pre .0 .1 .row in (omega (arith, row .last, row .most), ready c)
 
 next-year-requires : tie.Need-next-year-requires Inv-loop μ-loop
-next-year-requires c κs = year-input (input (c .before .before .before)) (c .before .before .loop .inv) (omega arith)
+next-year-requires c κs =
+    let t = c .before in
+    rw (c .year-at .ensures)
+    (ready t, rw (sums-at-place (t .before .before .before .args .years .now) (place t)) at (year-input (input (t .before .before)) (t .before .loop .inv) (omega arith)))
 
 enum-known-year : tie.Need-enum-known-year Inv-loop μ-loop
 enum-known-year c = search needs
@@ -93,7 +111,7 @@ returns : tie.Need-returns Inv-loop μ-loop
 returns c =
     let y = c .before .before .before .before in
     let l = turn y .before .loop in
-    let no = sym (c .before .before .enum-told .given .1) ∙ y .next-year .ensures in
+    let no = sym (c .before .before .enum-told .given .1) ∙ year-is y in
     let ok = input (begun y) in
     rw (sym (units-are (begun y)), c .refused-row .ensures) (record {
       verdict-is = c .before .refusal-at .ensures ∙ sym (year-refused ok (l .inv) (omega arith) no);
@@ -120,6 +138,7 @@ add-at : tie.Need-add-at Inv-loop μ-loop
 add-at c =
     let y = c .before .before .before .before .before .before .before .before .before .before .before .before .before .before in
     let r = room (input (begun y)) (turn y .before .loop .inv) (start y .pre .1) (omega arith) in
+    let g = start y .good in
     search needs
 
 add-j : tie.Need-add-j Inv-loop μ-loop
@@ -167,8 +186,7 @@ project-row-spec =
     add-loop
     sub-place
     add-place
-    mul-next-year
-    array-copy-out-next-year
+    year-at-requires
     next-year-requires
     enum-known-year
     enum-told

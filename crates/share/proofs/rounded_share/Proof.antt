@@ -1,80 +1,81 @@
--- The share by the division of sizes, and its sign; the laws are in Halves.
+-- The share of the remainder, and the outstanding times the quotient; the laws are in WholeShare.
 use borrow.Author.Needs.{needs}
-use mathlib.Core.Path.{_≡_}
-use Prim.Native.Nat.{_+_, _*_}
-use native.Mathlib.Omega.{arith}
+use mathlib.Core.Path.{_≡_, ap, _∙_}
 use lib.IntN.{natAbs}
+use Prim.Native.Nat.{_≤_}
 use mir.Syntax.{w64}
-use mir.Facts.{toZ-ofZ}
-use Rattle.integers.proofs.MachineArithmetic.{held}
-use Rattle.integers.proofs.CommutativeRing.{<ℤ→≤ℤ}
-use Rattle.share.specs.Signs.{half, with-sign-of}
-use Rattle.share.specs.LongDivision.{Divided}
+use mir.Facts.{toZ-ofZ, toZ-pos}
+use Rattle.share.specs.Share.{share-or-too-large}
+use Rattle.share.specs.NearestQuotient.{NearestQuotient}
 use Rattle.share.proofs.Signs.{unsigned}
-use Rattle.share.proofs.Halves.{division-input, outstanding-fits, rounded, too-large}
+use Rattle.share.proofs.WholeShare.{outstanding-≤, outstanding-fits, quotient-fits, nearest-input, quotient-<, value, value-is, beyond-reach, product-fits, value-fits}
 use Rattle.share.proofs.rounded_share.Statement.{statement}
 use Rattle.share.proofs.rounded_share.Tie as tie
 
-cast-divisor : tie.Need-cast-divisor
-cast-divisor c =
-    let sizes = division-input (c .pre) in
-    simp (toZ-ofZ (c .fits .exposure)) (unsigned (c .args .exposure) (<ℤ→≤ℤ (c .pre .exposure-positive)) (omega arith))
+cast-size : tie.Need-cast-size
+cast-size c =
+    let start = c .before .before in
+    simp (toZ-ofZ (outstanding-fits (start .pre))) (unsigned (start .args .outstanding .0) (start .pre .outstanding-nonneg) (outstanding-≤ (start .pre)))
 
-half-of-requires : tie.Need-half-of-requires
-half-of-requires c κs =
-    let sizes = division-input (c .pre) in
-    simp (toZ-ofZ (c .fits .exposure)) (omega arith)
+nearest-quotient-requires : tie.Need-nearest-quotient-requires
+nearest-quotient-requires c κs = simp (toZ-ofZ (outstanding-fits (c .before .before .pre))) (nearest-input (c .before .before .pre))
 
-added : (c : tie.After-half-of) → c .half-of .result ≡ half (natAbs (c .before .args .exposure)) (c .before .args .part)
-added c = simp (toZ-ofZ (c .before .fits .part), toZ-ofZ (c .before .fits .exposure)) at (c .half-of .ensures)
+abbrev began : tie.After-nearest-quotient → tie.Start
+began c = c .before .before .before
 
-cast-divided : tie.Need-cast-divided
-cast-divided c =
-    let start = c .before .before .before in
-    simp (toZ-ofZ (outstanding-fits (start .pre)))
-    (unsigned (start .args .outstanding .0) (start .pre .outstanding-nonneg) (division-input (start .pre) .outstanding-most))
-
-part-size-requires : tie.Need-part-size-requires
-part-size-requires c κs = search needs
-
-sized : (c : tie.After-part-size) → c .part-size .result ≡ natAbs (c .before .before .before .before .args .part)
-sized c = simp (toZ-ofZ (c .before .before .before .before .fits .part)) at (c .part-size .ensures)
-
-divided-requires : tie.Need-divided-requires
-divided-requires c κs =
-    let start = c .before .before .before .before in
-    simp (toZ-ofZ (outstanding-fits (start .pre)), toZ-ofZ (start .fits .exposure), sized c, added (c .before .before .before)) (division-input (start .pre))
-
-cut : (c : tie.After-divided) →
-    let args = c .before .before .before .before .before .args in
-    Divided (natAbs (args .outstanding .0) * natAbs (args .part) + half (natAbs (args .exposure)) (args .part)) (natAbs (args .exposure)) (c .divided .result)
-cut c =
-    let start = c .before .before .before .before .before in
-    simp (toZ-ofZ (outstanding-fits (start .pre)), toZ-ofZ (start .fits .exposure), sized (c .before), added (c .before .before .before .before))
-    at (c .divided .ensures)
+nearest : (c : tie.After-nearest-quotient) → let a = began c .args in
+    NearestQuotient (natAbs (a .outstanding .0)) (a .ratio .remainder) (a .exposure) (c .nearest-quotient .result)
+nearest c = simp (toZ-ofZ (outstanding-fits (began c .pre))) at (c .nearest-quotient .ensures)
 
 returns : tie.Need-returns
-returns c = too-large (c .before .before .before .before .before .before .pre) (cut (c .before)) (omega arith)
+returns c =
+    let near = c .before .before in
+    beyond-reach (began near .pre) (nearest near) (simp (toZ-ofZ {w = w64} (outstanding-fits (began near .pre))) at (c .if1 .taken))
 
-with-sign-of-requires : tie.Need-with-sign-of-requires
-with-sign-of-requires c κs = search needs
+within-reach : (c : tie.Else1) → let a = began (c .before .before) .args in natAbs (a .outstanding .0) ≤ a .ratio .reach
+within-reach c = simp (toZ-ofZ {w = w64} (outstanding-fits (began (c .before .before) .pre))) at (c .if1 .left)
+
+mul-limited : tie.Need-mul-limited
+mul-limited c =
+    let near = c .before .before .before .before .before .before in
+    let start = began near in
+    simp (toZ-ofZ (outstanding-fits (start .pre)), toZ-ofZ (quotient-fits (start .pre))) (product-fits (start .pre) (nearest near) (within-reach (c .before .before .before .before)))
+
+cast-limited : tie.Need-cast-limited
+cast-limited c =
+    let near = c .before .before .before .before .before .before .before in
+    record { sfits = quotient-< (began near .pre) (nearest near) }
+
+add-limited : tie.Need-add-limited
+add-limited c =
+    let near = c .before .before .before .before .before .before .before in
+    let start = began near in
+    let within = within-reach (c .before .before .before .before .before) in
+    simp (toZ-ofZ (outstanding-fits (start .pre)), toZ-ofZ (quotient-fits (start .pre)))
+    (rw (toZ-ofZ (product-fits (start .pre) (nearest near) within), toZ-pos w64 (quotient-< (start .pre) (nearest near))) (value-fits (start .pre) (nearest near) within))
+
+limited-requires : tie.Need-limited-requires
+limited-requires c κs = search needs
 
 returns-2 : tie.Need-returns-2
 returns-2 c =
-    let start = c .before .before .before .before .before .before .before in
-    let signed : c .with-sign-of .result ≡ with-sign-of (start .args .part) (c .before .before .divided .result .quotient)
-    = simp (toZ-ofZ {w = w64} (start .fits .part)) at (c .with-sign-of .ensures) in
-    rw (held (c .with-sign-of .result) (c .with-sign-of .ok), signed) (rounded (start .pre) (cut (c .before .before)) (omega arith))
+    let near = c .before .before .before .before .before .before .before .before in
+    let start = began near in
+    let within = within-reach (c .before .before .before .before .before .before) in
+    let numbers = simp (toZ-ofZ (outstanding-fits (start .pre)), toZ-ofZ (quotient-fits (start .pre))) at (c .limited .ensures) in
+    let answer : c .limited .result ≡ share-or-too-large (value (start .pre) (nearest near))
+    = rw (toZ-ofZ (product-fits (start .pre) (nearest near) within), toZ-pos w64 (quotient-< (start .pre) (nearest near)), toZ-ofZ (value-fits (start .pre) (nearest near) within)) at numbers in
+    answer ∙ ap share-or-too-large (value-is (start .pre) (nearest near))
 
 pub rounded-share-spec : {M : Type 1} → statement M
 rounded-share-spec =
     tie.close
     (tie.spec
-    cast-divisor
-    half-of-requires
-    cast-divided
-    part-size-requires
-    divided-requires
+    cast-size
+    nearest-quotient-requires
     returns
-    with-sign-of-requires
+    mul-limited
+    cast-limited
+    add-limited
+    limited-requires
     returns-2)

@@ -8,6 +8,7 @@ use lib.ListN.{length, getD}
 use Rattle.integers.proofs.MachineArithmetic.{Held, held}
 use Rattle.method.proofs.FirstRefusal.{PassedSoFar, none-asked, next-accepted, next-refused, all-accepted}
 use Rattle.verdicts.specs.Verdicts.{verdict-of}
+use Rattle.projection.specs.Prepared.{ratios-of}
 use Rattle.projected_rows.specs.ProjectedRows.{verdict-of-row}
 use Rattle.projected_rows.proofs.RowLoop.{row-list-length}
 use Rattle.projected_rows.proofs.RowAtHand.{row-input, verdict-of-row-is}
@@ -15,31 +16,31 @@ use Rattle.single_cell.proofs.question_9.Statement.{statement}
 use Rattle.single_cell.proofs.question_9.Tie as tie
 
 abbrev Inv-loop : tie.InvT-loop
-Inv-loop n ratios outstandings figures₀ r₀ figures r = PassedSoFar n (verdict-of-row n ratios outstandings) r × (length figures ≡ 93)
+Inv-loop n years outstandings figures₀ r₀ figures r = PassedSoFar n (verdict-of-row n (ratios-of years) outstandings) r × (length figures ≡ 93)
 
 abbrev μ-loop : tie.MeasureT-loop
-μ-loop n ratios outstandings figures₀ r₀ figures r = n - r
+μ-loop n years outstandings figures₀ r₀ figures r = n - r
 
 -- where the code began, seen from a turn of the loop
 abbrev start : tie.In-loop Inv-loop μ-loop → tie.Start Inv-loop μ-loop
-start c = c .before .before .before .before
+start c = c .before .before
 
 few : (c : tie.In-loop Inv-loop μ-loop) → c .before .loop .r < 32
-few c = omega (arith, start c .pre .most)
+few c = omega (arith, start c .pre .1 .ratios-in-range .most)
 
 -- the row's last observed outstanding, as it is read
 observed-read : (c : tie.After-project-row-arg Inv-loop μ-loop) →
-    Held (getD (start (c .before) .args .development .outstandings) (c .before .before .loop .r) (pos 0))
-observed-read c = held (getD (start (c .before) .args .development .outstandings) (c .before .before .loop .r) (pos 0)) (c .project-row-arg .given)
+    Held (getD (start (c .before) .args .t3) (c .before .before .loop .r) (pos 0))
+observed-read c = held (getD (start (c .before) .args .t3) (c .before .before .loop .r) (pos 0)) (c .project-row-arg .given)
 
 -- the verdict on the row at hand
 said : (c : tie.After-project-row Inv-loop μ-loop) →
     let t = c .before .before .before in
     let a = start t .args in
-    verdict-of-row (a .n) (a .development .ratios) (a .development .outstandings) (t .before .loop .r + 1) ≡ verdict-of (c .project-row .result .verdict)
+    verdict-of-row (a .n) (ratios-of (a .years .now)) (a .t3) (t .before .loop .r + 1) ≡ verdict-of (c .project-row .result .verdict)
 said c =
     let t = c .before .before .before in
-    verdict-of-row-is (start t .pre) (t .before .loop .r) (omega arith) (simp (observed-read (c .before .before)) at (c .project-row .ensures))
+    verdict-of-row-is (start t .pre .1) (t .before .loop .r) (omega arith) (simp (observed-read (c .before .before)) at (c .project-row .ensures))
 
 loop-holds : tie.Need-loop-holds Inv-loop μ-loop
 loop-holds c = (none-asked _ _, refl)
@@ -59,7 +60,7 @@ slice-aggregate-project-row c = sym (c .before .before .before .loop .inv .1)
 project-row-requires : tie.Need-project-row-requires Inv-loop μ-loop
 project-row-requires c κs =
     let t = c .before .before in (
-      rw (observed-read (c .before)) (row-input (start t .pre) (t .before .loop .r) (omega arith)),
+      (start t .pre .0, rw (observed-read (c .before)) (row-input (start t .pre .1) (t .before .loop .r) (omega arith))),
       omega (arith, few t, t .before .loop .inv .1),
     )
 

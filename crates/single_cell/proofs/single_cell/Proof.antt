@@ -15,6 +15,8 @@ use Rattle.verdicts.proofs.Counts.{count-fits}
 use Rattle.questions.specs.declared.inputs.AnswerLists.the-variants.{NotGiven}
 use Rattle.questions.specs.Inputs.{triangle-of}
 use Rattle.triangle.specs.Reading.{ReadingOf}
+use Rattle.projection.specs.Prepared.{ratios-of}
+use Rattle.projected_rows.specs.ProjectedRows.{Projectable}
 use Rattle.projected_rows.proofs.OfTriangle.{question-9-is}
 use Rattle.projected_rows.proofs.ReadTriangles.{observed, was-read, can-be-projected, with-question-9, question-1-passed}
 use Rattle.single_cell.specs.Cells.{CellAccepted}
@@ -33,24 +35,38 @@ reading c = simp (toZ-ofZ (c .before .fits .years), toZ-ofZ (c .before .fits .cu
 readable : (c : tie.After-enum-told) → verdict-of (c .before .before .read .result .verdict) ≡ accepted
 readable c = ap verdict-of (c .enum-told .given .1)
 
+-- the ratios that the years were prepared from are those that were read
+abbrev told-of : tie.After-prepared-years → tie.After-enum-told
+told-of c = c .before .before .before
+
+can-be-projected-by : (c : tie.After-prepared-years) → let r = told-of c .before .before in
+    Projectable (natAbs (r .before .args .years)) (ratios-of (c .prepared-years .result)) (r .read .result .development .outstandings)
+can-be-projected-by c = let r = told-of c .before .before in rw (c .prepared-years .ensures .1) (can-be-projected (reading r) (readable (told-of c)))
+
 -- the verdict of questions 1 to 9
-nine : (c : tie.After-question-9) → let s = c .before .before .before .before .before in
+abbrev prepared-of : tie.After-question-9 → tie.After-prepared-years
+prepared-of c = c .before .before .before
+
+nine : (c : tie.After-question-9) → let s = told-of (prepared-of c) .before .before .before in
     verdict-of (c .question-9 .result) ≡ questions (triangle s) (input-lengths-right (triangle s))
 nine c =
-    let told = c .before .before in
+    let told = told-of (prepared-of c) in
     let r = told .before .before in
-    let e = simp (toZ-ofZ (r .before .fits .years)) at (c .question-9 .ensures) in
+    let e = rw (prepared-of c .prepared-years .ensures .1) at (simp (toZ-ofZ (r .before .fits .years)) at (c .question-9 .ensures)) in
     with-question-9 (reading r) (readable told) (e ∙ question-9-is (was-read (reading r) (readable told)))
 
 -- question 10
-abbrev began : tie.After-asked → tie.Start
-began c = c .before .before .before .before .before .before .before .before .before
+abbrev years-of : tie.After-asked → tie.After-prepared-years
+years-of c = prepared-of (c .before .before .before .before)
 
 abbrev read-of : tie.After-asked → tie.After-read
-read-of c = c .before .before .before .before .before .before .before .before
+read-of c = told-of (years-of c) .before .before
+
+abbrev began : tie.After-asked → tie.Start
+began c = read-of c .before
 
 readable-of : (c : tie.After-asked) → verdict-of (read-of c .read .result .verdict) ≡ accepted
-readable-of c = readable (c .before .before .before .before .before .before)
+readable-of c = readable (told-of (years-of c))
 
 -- questions 1 to 9 have accepted
 projectable : (c : tie.After-asked) → verdict-of (c .before .before .before .before .question-9 .result) ≡ accepted
@@ -80,12 +96,12 @@ unseen c =
     let a = c .before .before in
     unseen-cell _ _ _ (years-right a) (ask-accepted _ 10 _ (sym (tested a) ∙ ap verdict-of (c .enum-told5 .given .1)))
 
-cell-right : (c : tie.After-enum-told5) → let s = began (c .before .before) in let d = read-of (c .before .before) .read .result .development in
-    CellAccepted (natAbs (s .args .years)) (d .ratios) (d .outstandings) (natAbs (s .args .accident-year)) (natAbs (s .args .development-year))
+cell-right : (c : tie.After-enum-told5) → let s = began (c .before .before) in let a = c .before .before in
+    CellAccepted (natAbs (s .args .years)) (ratios-of (years-of a .prepared-years .result)) (read-of a .read .result .development .outstandings) (natAbs (s .args .accident-year)) (natAbs (s .args .development-year))
 cell-right c =
     let a = c .before .before in
     let q = a .before .before .before .before in
-    cell-accepted (can-be-projected (reading (read-of a)) (readable-of a)) (unseen c)
+    cell-accepted (can-be-projected-by (years-of a)) (unseen c)
     (sym (simp (toZ-ofZ (began a .fits .years)) at (q .question-9 .ensures)) ∙ projectable a)
 
 read-requires : tie.Need-read-requires
@@ -116,8 +132,14 @@ cast-n c =
 
 question-9-requires : tie.Need-question-9-requires
 question-9-requires c κs =
-    let r = c .before .before .before in
-    simp (toZ-ofZ (r .before .fits .years)) (can-be-projected (reading r) (readable (c .before)))
+    let p = c .before .before in
+    let s = told-of p .before .before .before in
+    simp (toZ-ofZ (s .fits .years)) (simp (toZ-ofZ (s .fits .years)) at (p .prepared-years .ensures .0), can-be-projected-by p)
+
+prepared-years-requires : tie.Need-prepared-years-requires
+prepared-years-requires c κs =
+    let r = c .before .before .before .before in
+    simp (toZ-ofZ (r .before .fits .years)) (can-be-projected (reading r) (readable (c .before .before)) .ratios-in-range)
 
 enum-told-3 : tie.Need-enum-told-3
 enum-told-3 c = search needs
@@ -132,13 +154,13 @@ returns-2 : tie.Need-returns-2
 unfolding cell-verdict
 returns-2 c =
     let q = c .before .before .before in
-    let s = q .before .before .before .before .before in
+    let s = told-of (prepared-of q) .before .before .before in
     let d = ap verdict-of (c .before .enum-told4 .given .1) in
     with-demands (triangle s) _ _ (c .refused2 .ensures ∙ refused-whole (triangle s) (s .args .accident-year) (s .args .development-year) (stopped _ (nine q) d) d)
 
 cell-unseen-requires : tie.Need-cell-unseen-requires
 cell-unseen-requires c κs =
-    let told = c .before .before .before .before in
+    let told = told-of (prepared-of (c .before .before)) in
     let r = told .before .before in
     simp (toZ-ofZ (r .before .fits .years)) (question-1-passed (reading r) (readable told))
 
@@ -163,31 +185,35 @@ returns-3 c =
 
 cast-cell-of : tie.Need-cast-cell-of
 cast-cell-of c =
-    let s = began (c .before .before) in
-    let u = unseen c in
-    simp (toZ-ofZ (s .fits .accident-year)) (count-fits (s .args .accident-year) (u .accident-year-counted) (omega (arith, u .last, years-right (c .before .before) .most)))
+    let a = c .before .before .before in
+    let s = began a in
+    let u = unseen (c .before) in
+    simp (toZ-ofZ (s .fits .accident-year)) (count-fits (s .args .accident-year) (u .accident-year-counted) (omega (arith, u .last, years-right a .most)))
 
 cast-cell-of-2 : tie.Need-cast-cell-of-2
 cast-cell-of-2 c =
-    let s = began (c .before .before) in
-    let u = unseen c in
-    simp (toZ-ofZ (s .fits .development-year)) (count-fits (s .args .development-year) (u .development-year-counted) (omega (arith, u .last-year, years-right (c .before .before) .most)))
+    let a = c .before .before .before in
+    let s = began a in
+    let u = unseen (c .before) in
+    simp (toZ-ofZ (s .fits .development-year)) (count-fits (s .args .development-year) (u .development-year-counted) (omega (arith, u .last-year, years-right a .most)))
 
 cell-of-requires : tie.Need-cell-of-requires
 cell-of-requires c κs =
-    let s = began (c .before .before) in
-    simp (toZ-ofZ (s .fits .years), toZ-ofZ (s .fits .accident-year), toZ-ofZ (s .fits .development-year)) (cell-right c)
+    let a = c .before .before .before in
+    let s = began a in
+    simp (toZ-ofZ (s .fits .years), toZ-ofZ (s .fits .accident-year), toZ-ofZ (s .fits .development-year))
+    (simp (toZ-ofZ (s .fits .years)) at (years-of a .prepared-years .ensures .0), cell-right (c .before))
 
 returns-4 : tie.Need-returns-4
 returns-4 c =
-    let told = c .before in
+    let told = c .before .before in
     let a = told .before .before in
     let s = began a in
     let r = read-of a in
     with-demands (triangle s) _ _
     ((simp (toZ-ofZ (s .fits .years), toZ-ofZ (s .fits .accident-year), toZ-ofZ (s .fits .development-year)) at (c .cell-of .ensures))
     ∙ accepted-whole (triangle s) (s .args .accident-year) (s .args .development-year) (ten a) (ap verdict-of (told .enum-told5 .given .1))
-    (movement-in-triangle (was-read (reading r) (readable-of a)) _ _ (cell-right told)))
+    (movement-in-triangle {t = triangle s} (rw (years-of a .prepared-years .ensures .1) (was-read (reading r) (readable-of a))) _ _ (cell-right told)))
 
 pub single-cell-spec : {M : Type 1} → statement M
 single-cell-spec =
@@ -199,6 +225,7 @@ single-cell-spec =
     refused-requires
     returns
     cast-n
+    prepared-years-requires
     question-9-requires
     enum-told-3
     enum-told-4
