@@ -11,17 +11,17 @@ use lib.Seq.{getD-set-other, ext-getD}
 use lib.Signed.{_≤ℤ_, nonNeg}
 use mir.Syntax.{w64}
 use mir.Val.{Fits, SFits}
-use Rattle.integers.proofs.CommutativeRing.{<ℤ→≤ℤ}
 use Rattle.integers.proofs.RingSolver.{con, _:+_, _:-_}
-use Rattle.integers.proofs.LinearFacts.{integers, parts, ≡-by, ≤ℤ-by}
-use Rattle.integers.proofs.Order.{natAbs-parts, natAbs-in-range, natAbs-+ℤ, size-of-nonneg}
+use Rattle.integers.proofs.LinearFacts.{parts, ≡-by, ≤ℤ-by}
+use Rattle.integers.proofs.Order.{natAbs-parts, natAbs-+ℤ, size-of-nonneg}
 use Rattle.integers.proofs.MachineArithmetic.{fits-natAbs}
 use Rattle.method.specs.Limits.{most-ratios}
 use Rattle.method.specs.Outstandings as meaning
 use Rattle.method.specs.SumLimits.{greatest-sum, SumsInRange}
 use Rattle.share.specs.declared.ratio.Ratio.{Ratio}
-use Rattle.share.specs.Ratio.{Exposure, Ready, part-of}
+use Rattle.share.specs.Ratio.{Ready, part-of}
 use Rattle.share.proofs.Signs.{unsigned}
+use Rattle.share.proofs.Exposures.{exposure-is}
 use Rattle.ratios.proofs.Places.{one-more-place}
 use Rattle.ratios.specs.declared.Sums.{Sums}
 use Rattle.ratios.specs.Ratios.{sums-of, no-sums}
@@ -29,28 +29,9 @@ use Rattle.projection.specs.Prepared.{YearReady, numbers-of-a-year, year
 
 -- ---- One year
 
-module _ {s : Sums} (h : SumsInRange (sums-of s)) where
-  pub exposed : Exposure (natAbs (s .exposure))
-  exposed = record {
-    positive = omega (arith, integers, natAbs-parts (s .exposure), h .D-positive);
-    most = natAbs-in-range (s .exposure) (<ℤ→≤ℤ (h .D-positive), h .D-most);
-  }
-
-  pub exposure-unsigned : T (nonNeg (s .exposure)) × Fits w64 (natAbs (s .exposure))
-  exposure-unsigned = unsigned (s .exposure) (<ℤ→≤ℤ (h .D-positive)) (omega (arith, exposed .most))
-
-  pub exposure-fits : SFits w64 (s .exposure)
-  exposure-fits = fits-natAbs w64 (s .exposure) greatest-sum (exposed .most) (lit< tt)
-
-  pub payments-fits : SFits w64 (s .payments)
-  payments-fits = fits-natAbs w64 (s .payments) greatest-sum (h .P-size) (lit< tt)
-
-  pub adjustments-fits : SFits w64 (s .adjustments)
-  adjustments-fits = fits-natAbs w64 (s .adjustments) greatest-sum (h .Q-size) (lit< tt)
-
-  pub sums-of-prepared : (p q : Ratio) → part-of p (natAbs (s .exposure)) ≡ s .payments → part-of q (natAbs (s .exposure)) ≡ s .adjustments
-      → year-sums (record { payments = p; adjustments = q; exposure = natAbs (s .exposure) }) ≡ s
-  sums-of-prepared p q e f = λ i. record { payments = e i; adjustments = f i; exposure = size-of-nonneg (s .exposure) (<ℤ→≤ℤ (h .D-positive)) i }
+pub sums-of-prepared : {s : Sums} → SumsInRange (sums-of s) → (p q : Ratio) → part-of p (natAbs (s .exposure)) ≡ s .payments → part-of q (natAbs (s .exposure)) ≡ s .adjustments
+    → year-sums (record { payments = p; adjustments = q; exposure = natAbs (s .exposure) }) ≡ s
+sums-of-prepared h p q e f = λ i. record { payments = e i; adjustments = f i; exposure = exposure-is (h .D-positive) (h .D-most) i }
 
 -- ---- A year kept as plain numbers
 
@@ -61,9 +42,6 @@ module _ {r : Ratio} {exposure : ℕ} (ready : Ready r exposure) where
   pub raised-unsigned : T (nonNeg (r .quotient +ℤ pos greatest-sum)) × Fits w64 (natAbs (r .quotient +ℤ pos greatest-sum))
   raised-unsigned = unsigned (r .quotient +ℤ pos greatest-sum) raised-nonneg
       (omega (arith, natAbs-+ℤ (r .quotient) (pos greatest-sum), ready .quotient-most))
-
-  pub quotient-fits : SFits w64 (r .quotient)
-  quotient-fits = fits-natAbs w64 (r .quotient) greatest-sum (ready .quotient-most) (lit< tt)
 
   pub raised-fits : SFits w64 (r .quotient +ℤ pos greatest-sum)
   raised-fits = fits-natAbs w64 (r .quotient +ℤ pos greatest-sum) (greatest-sum + greatest-sum)

@@ -3,6 +3,7 @@ pub mod Columns
 pub mod Estimates
 pub mod Reciprocal
 pub mod Signs
+pub mod Exposures
 pub mod Ratios
 pub mod ExactRemainder
 pub mod Answers

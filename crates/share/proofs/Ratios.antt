@@ -9,16 +9,17 @@ use native.Mathlib.Nat.{mul-le-mul, le-div-iff-mul-le, div-lt-iff-lt-mul, div-le
 use native.Mathlib.Omega.{arith}
 use mir.Syntax.{w64}
 use mir.Val.{SFits, Fits}
-use Rattle.integers.proofs.MachineArithmetic.{fits-natAbs}
 use Rattle.integers.proofs.RingSolver.{con, _:+_, _:-_, _:*_, neg}
 use Rattle.integers.proofs.LinearFacts.{integers, ≡-by, ≤ℤ-by}
 use Rattle.integers.proofs.Order.{natAbs-parts, natAbs-by}
 use Rattle.method.specs.SumLimits.{greatest-sum}
 use Rattle.share.specs.Share.{greatest-size}
 use Rattle.share.proofs.Signs.{unsigned}
+use Rattle.share.proofs.Exposures.{sum-fits}
+use Rattle.share.specs.declared.ratio.Ratio.{Ratio}
 use Rattle.share.specs.declared.ratio.Divided.{Divided}
 use Rattle.share.specs.declared.ratio.Floored.{Floored}
-use Rattle.share.specs.Ratio.{Division, FloorOf, greatest-product, Reach}
+use Rattle.share.specs.Ratio.{Division, FloorOf, greatest-product, Reach, Ready}
 
 -- ---- A part rounded down
 
@@ -47,7 +48,7 @@ module _ (part : ℤ) (h : ltZ part (pos 0) ≡ true) (l : natAbs part ≤ great
   downward-≤ = natAbs-by (con (negsuc 0) :- con part) greatest-sum (omega (arith, integers, natAbs-parts part))
 
   pub downward-fits : SFits w64 (negsuc 0 -ℤ part)
-  downward-fits = fits-natAbs w64 (negsuc 0 -ℤ part) greatest-sum downward-≤ (omega arith)
+  downward-fits = sum-fits (negsuc 0 -ℤ part) downward-≤
 
   pub downward-unsigned : T (nonNeg (negsuc 0 -ℤ part)) × Fits w64 (natAbs (negsuc 0 -ℤ part))
   downward-unsigned =
@@ -72,7 +73,10 @@ floor-downward (negsuc n) {exposure} {r} h p v = record {
     counted = ap natAbs (≡-by (con (negsuc 0) :- con (negsuc n)) (con (pos n)) (omega arith))
 
 pub floored-fits : {part : ℤ} {exposure : ℕ} {f : Floored} → natAbs part ≤ greatest-sum → FloorOf part exposure f → SFits w64 (f .quotient)
-floored-fits {f = f} l v = fits-natAbs w64 (f .quotient) greatest-sum (omega (arith, v .size)) (omega arith)
+floored-fits {f = f} l v = sum-fits (f .quotient) (omega (arith, v .size))
+
+pub quotient-fits : {r : Ratio} {exposure : ℕ} → Ready r exposure → SFits w64 (r .quotient)
+quotient-fits {r = r} h = sum-fits (r .quotient) (h .quotient-most)
 
 -- ---- Reach
 

@@ -12,7 +12,6 @@ use Rattle.integers.proofs.LinearFacts.{parts, <ℤ-by}
 use Rattle.integers.proofs.Order.{natAbs-parts, natAbs-in-range, natAbs-*ℤ, natAbs-+ℤ, size-of-nonneg}
 use Rattle.integers.proofs.MachineArithmetic.{fits-natAbs}
 use Rattle.integers.proofs.Rounding as rounding
-use Rattle.method.specs.SumLimits.{greatest-sum}
 use Rattle.method.specs.ProjectedYear.{share}
 use Rattle.share.specs.declared.ratio.Ratio.{Ratio}
 use Rattle.share.specs.declared.Nearest.{Nearest}
@@ -47,9 +46,6 @@ module _ {o : ℤ} {ratio : Ratio} {exposure : ℕ} (i : ShareInput o ratio expo
 
   pub outstanding-fits : SFits w64 o
   outstanding-fits = fits-natAbs w64 o greatest-size outstanding-≤ (omega arith)
-
-  pub quotient-fits : SFits w64 (ratio .quotient)
-  quotient-fits = fits-natAbs w64 (ratio .quotient) greatest-sum (i .ready .quotient-most) (omega arith)
 
   pub nearest-input : NearestInput (natAbs o) (ratio .remainder) (ratio .fraction) exposure
   nearest-input = record { outstanding-most = outstanding-≤; exposed = i .ready .exposed; below = i .ready .below; fraction-of = i .ready .fraction }

@@ -26,7 +26,9 @@ left-is : (c : tie.After-wrapping-sub-u64) →
     let start = c .before .before .before .before in
     (c .wrapping-sub-u64 .result + estimate (start .pre) * start .args .exposure ≡ start .args .outstanding * start .args .remainder)
     × (2 * c .wrapping-sub-u64 .result < 3 * start .args .exposure)
-left-is c = left-exact (c .before .before .before .before .pre) (c .wrapping-sub-u64 .result) (c .wrapping-sub-u64 .ok) (cc)
+left-is c =
+    let products = rw (c .before .low-product2 .ensures, c .before .before .low-product .ensures, c .before .before .before .high-product .ensures) at (c .wrapping-sub-u64 .ensures) in
+    left-exact (c .before .before .before .before .pre) (c .wrapping-sub-u64 .result) (c .wrapping-sub-u64 .ok) products
 
 rounded-up-requires : tie.Need-rounded-up-requires
 rounded-up-requires c κs = search (needs, left-is c)

@@ -8,7 +8,8 @@ use mir.Facts.{toZ-ofZ, toZ-pos}
 use Rattle.share.specs.Share.{share-or-too-large}
 use Rattle.share.specs.NearestQuotient.{NearestQuotient}
 use Rattle.share.proofs.Signs.{unsigned}
-use Rattle.share.proofs.WholeShare.{outstanding-≤, outstanding-fits, quotient-fits, nearest-input, quotient-<, value, value-is, beyond-reach, product-fits, value-fits}
+use Rattle.share.proofs.Ratios.{quotient-fits}
+use Rattle.share.proofs.WholeShare.{outstanding-≤, outstanding-fits, nearest-input, quotient-<, value, value-is, beyond-reach, product-fits, value-fits}
 use Rattle.share.proofs.rounded_share.Statement.{statement}
 use Rattle.share.proofs.rounded_share.Tie as tie
 
@@ -39,7 +40,7 @@ mul-limited : tie.Need-mul-limited
 mul-limited c =
     let near = c .before .before .before .before .before .before in
     let start = began near in
-    simp (toZ-ofZ (outstanding-fits (start .pre)), toZ-ofZ (quotient-fits (start .pre))) (product-fits (start .pre) (nearest near) (within-reach (c .before .before .before .before)))
+    simp (toZ-ofZ (outstanding-fits (start .pre)), toZ-ofZ (quotient-fits (start .pre .ready))) (product-fits (start .pre) (nearest near) (within-reach (c .before .before .before .before)))
 
 cast-limited : tie.Need-cast-limited
 cast-limited c =
@@ -51,7 +52,7 @@ add-limited c =
     let near = c .before .before .before .before .before .before .before in
     let start = began near in
     let within = within-reach (c .before .before .before .before .before) in
-    simp (toZ-ofZ (outstanding-fits (start .pre)), toZ-ofZ (quotient-fits (start .pre)))
+    simp (toZ-ofZ (outstanding-fits (start .pre)), toZ-ofZ (quotient-fits (start .pre .ready)))
     (rw (toZ-ofZ (product-fits (start .pre) (nearest near) within), toZ-pos w64 (quotient-< (start .pre) (nearest near))) (value-fits (start .pre) (nearest near) within))
 
 limited-requires : tie.Need-limited-requires
@@ -62,7 +63,7 @@ returns-2 c =
     let near = c .before .before .before .before .before .before .before .before in
     let start = began near in
     let within = within-reach (c .before .before .before .before .before .before) in
-    let numbers = simp (toZ-ofZ (outstanding-fits (start .pre)), toZ-ofZ (quotient-fits (start .pre))) at (c .limited .ensures) in
+    let numbers = simp (toZ-ofZ (outstanding-fits (start .pre)), toZ-ofZ (quotient-fits (start .pre .ready))) at (c .limited .ensures) in
     let answer : c .limited .result ≡ share-or-too-large (value (start .pre) (nearest near))
     = rw (toZ-ofZ (product-fits (start .pre) (nearest near) within), toZ-pos w64 (quotient-< (start .pre) (nearest near)), toZ-ofZ (value-fits (start .pre) (nearest near) within)) at numbers in
     answer ∙ ap share-or-too-large (value-is (start .pre) (nearest near))

@@ -2,12 +2,15 @@
 use borrow.Author.Needs.{needs}
 use mathlib.Core.Path.{_≡_, sym, ap₂, _∙_}
 use mathlib.Core.Bool.{true, _&&_}
-use lib.IntN.{natAbs}
+use lib.IntN.{pos, natAbs}
+use lib.Signed.{_≤ℤ_, _<ℤ_}
 use mir.Syntax.{w64}
 use mir.Facts.{toZ-ofZ}
+use Rattle.method.specs.SumLimits.{greatest-sum}
 use Rattle.share.specs.Ratio.{Ready, part-of}
+use Rattle.share.proofs.Exposures.{exposed, exposure-unsigned, exposure-is}
 use Rattle.share_benchmark.specs.Shares.{in-limits, shares-answer, shares-of}
-use Rattle.share_benchmark.proofs.InLimits.{part-size, exposed, exposure-unsigned, exposure-is}
+use Rattle.share_benchmark.proofs.InLimits.{part-size, exposure-positive, exposure-most}
 use Rattle.share_benchmark.proofs.juniperprow_shares.Statement.{statement}
 use Rattle.share_benchmark.proofs.juniperprow_shares.Tie as tie
 
@@ -30,11 +33,17 @@ tested c =
 within : (c : tie.Then1) → let s = c .before .before .before in in-limits (s .args .part) (s .args .exposure) ≡ true
 within c = tested (c .before) ∙ c .if1 .taken
 
+positive : (c : tie.Then1) → pos 0 <ℤ c .before .before .before .args .exposure
+positive c = let a = c .before .before .before .args in exposure-positive (a .part) (a .exposure) (within c)
+
+most : (c : tie.Then1) → c .before .before .before .args .exposure ≤ℤ pos greatest-sum
+most c = let a = c .before .before .before .args in exposure-most (a .part) (a .exposure) (within c)
+
 cast-divisor : tie.Need-cast-divisor
-cast-divisor c = let s = c .before .before .before in simp (toZ-ofZ (s .fits .exposure)) (exposure-unsigned (s .args .part) (s .args .exposure) (within c))
+cast-divisor c = simp (toZ-ofZ (c .before .before .before .fits .exposure)) (exposure-unsigned (positive c) (most c))
 
 reciprocal-of-requires : tie.Need-reciprocal-of-requires
-reciprocal-of-requires c κs = let s = c .before .before .before in simp (toZ-ofZ (s .fits .exposure)) (exposed (s .args .part) (s .args .exposure) (within c))
+reciprocal-of-requires c κs = simp (toZ-ofZ (c .before .before .before .fits .exposure)) (exposed (positive c) (most c))
 
 ratio-of-requires : tie.Need-ratio-of-requires
 ratio-of-requires c κs =
@@ -42,7 +51,7 @@ ratio-of-requires c κs =
     let s = t .before .before .before in
     simp (toZ-ofZ (s .fits .exposure), toZ-ofZ (s .fits .part)) (
       record {
-        exposed = exposed (s .args .part) (s .args .exposure) (within t);
+        exposed = exposed (positive t) (most t);
         reciprocal-is = simp (toZ-ofZ (s .fits .exposure)) at (c .reciprocal-of .ensures);
       },
       part-size (s .args .part) (s .args .exposure) (within t),
@@ -67,7 +76,7 @@ returns c =
     let t = r .before .before in
     let s = t .before .before .before in
     let shares = simp (toZ-ofZ (s .fits .exposure)) at (c .before .take-shares .ensures) in
-    let list = rw (prepared r .1, exposure-is (s .args .part) (s .args .exposure) (within t)) at shares in
+    let list = rw (prepared r .1, exposure-is (positive t) (most t)) at shares in
     (rw (within t), rw (within t) list)
 
 returns-2 : tie.Need-returns-2

@@ -1,6 +1,7 @@
 -- The quotients, raised, and the other numbers as they are.
 use mir.Facts.{toZ-ofZ}
-use Rattle.projection.proofs.PreparedYears.{quotient-fits, raised-fits, raised-unsigned, lowered}
+use Rattle.share.proofs.Ratios.{quotient-fits}
+use Rattle.projection.proofs.PreparedYears.{raised-fits, raised-unsigned, lowered}
 use Rattle.projection.proofs.prepared.as_numbers.Statement.{statement}
 use Rattle.projection.proofs.prepared.as_numbers.Tie as tie
 

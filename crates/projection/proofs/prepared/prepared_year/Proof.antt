@@ -1,33 +1,52 @@
 -- Both ratios by one reciprocal.
+use lib.IntN.{natAbs}
+use mir.Syntax.{w64}
+use mir.Val.{SFits}
 use mir.Facts.{toZ-ofZ}
-use Rattle.projection.proofs.PreparedYears.{exposed, exposure-unsigned, exposure-fits, payments-fits, adjustments-fits, sums-of-prepared}
+use Rattle.share.specs.Ratio.{Exposure}
+use Rattle.share.proofs.Exposures.{sum-fits, exposed, exposure-unsigned}
+use Rattle.projection.proofs.PreparedYears.{sums-of-prepared}
 use Rattle.projection.proofs.prepared.prepared_year.Statement.{statement}
 use Rattle.projection.proofs.prepared.prepared_year.Tie as tie
 
+divisor : (s : tie.Start) → Exposure (natAbs (s .args .sums .exposure))
+divisor s = exposed (s .pre .D-positive) (s .pre .D-most)
+
+-- the three sums are numbers of 64 bits
+exposure-fits : (s : tie.Start) → SFits w64 (s .args .sums .exposure)
+exposure-fits s = sum-fits (s .args .sums .exposure) (divisor s .most)
+
+payments-fits : (s : tie.Start) → SFits w64 (s .args .sums .payments)
+payments-fits s = sum-fits (s .args .sums .payments) (s .pre .P-size)
+
+adjustments-fits : (s : tie.Start) → SFits w64 (s .args .sums .adjustments)
+adjustments-fits s = sum-fits (s .args .sums .adjustments) (s .pre .Q-size)
+
 cast-exposure : tie.Need-cast-exposure
-cast-exposure c = let h = c .before .before .pre in simp (toZ-ofZ (exposure-fits h)) (exposure-unsigned h)
+cast-exposure c = let s = c .before .before in simp (toZ-ofZ (exposure-fits s)) (exposure-unsigned (s .pre .D-positive) (s .pre .D-most))
 
 reciprocal-of-requires : tie.Need-reciprocal-of-requires
-reciprocal-of-requires c κs = let h = c .before .before .pre in simp (toZ-ofZ (exposure-fits h)) (exposed h)
+reciprocal-of-requires c κs = let s = c .before .before in simp (toZ-ofZ (exposure-fits s)) (divisor s)
 
 ratio-of-requires : tie.Need-ratio-of-requires
 ratio-of-requires c κs =
-    let h = c .before .before .before .before .pre in
-    simp (toZ-ofZ (exposure-fits h), toZ-ofZ (payments-fits h))
-    (record { exposed = exposed h; reciprocal-is = simp (toZ-ofZ (exposure-fits h)) at (c .before .reciprocal-of .ensures) }, h .P-size)
+    let s = c .before .before .before .before in
+    simp (toZ-ofZ (exposure-fits s), toZ-ofZ (payments-fits s))
+    (record { exposed = divisor s; reciprocal-is = simp (toZ-ofZ (exposure-fits s)) at (c .before .reciprocal-of .ensures) }, s .pre .P-size)
 
 ratio-of-requires-2 : tie.Need-ratio-of-requires-2
 ratio-of-requires-2 c κs =
-    let h = c .before .before .before .before .before .before .pre in
-    simp (toZ-ofZ (exposure-fits h), toZ-ofZ (adjustments-fits h))
-    (record { exposed = exposed h; reciprocal-is = simp (toZ-ofZ (exposure-fits h)) at (c .before .before .before .reciprocal-of .ensures) }, h .Q-size)
+    let s = c .before .before .before .before .before .before in
+    simp (toZ-ofZ (exposure-fits s), toZ-ofZ (adjustments-fits s))
+    (record { exposed = divisor s; reciprocal-is = simp (toZ-ofZ (exposure-fits s)) at (c .before .before .before .reciprocal-of .ensures) }, s .pre .Q-size)
 
 returns : tie.Need-returns
 returns c =
-    let h = c .before .before .before .before .before .before .before .pre in
-    let p = simp (toZ-ofZ (exposure-fits h), toZ-ofZ (payments-fits h)) at (c .before .before .ratio-of .ensures) in
-    let q = simp (toZ-ofZ (exposure-fits h), toZ-ofZ (adjustments-fits h)) at (c .ratio-of2 .ensures) in
-    simp (toZ-ofZ (exposure-fits h)) (record { payments = p .0; adjustments = q .0 }, sums-of-prepared h (c .before .before .ratio-of .result) (c .ratio-of2 .result) (p .1) (q .1))
+    let s = c .before .before .before .before .before .before .before in
+    let p = simp (toZ-ofZ (exposure-fits s), toZ-ofZ (payments-fits s)) at (c .before .before .ratio-of .ensures) in
+    let q = simp (toZ-ofZ (exposure-fits s), toZ-ofZ (adjustments-fits s)) at (c .ratio-of2 .ensures) in
+    simp (toZ-ofZ (exposure-fits s))
+    (record { payments = p .0; adjustments = q .0 }, sums-of-prepared (s .pre) (c .before .before .ratio-of .result) (c .ratio-of2 .result) (p .1) (q .1))
 
 pub prepared-year-spec : {M : Type 1} → statement M
 prepared-year-spec =

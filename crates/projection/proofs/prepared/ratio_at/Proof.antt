@@ -6,9 +6,8 @@ use lib.ListN.{getD}
 use mir.Syntax.{w64}
 use mir.Val.{SFits}
 use mir.Facts.{toZ-ofZ, toZ-pos}
-use Rattle.integers.proofs.MachineArithmetic.{fits-natAbs}
 use Rattle.method.specs.SumLimits.{greatest-sum}
-use lib.Dec.{lit<}
+use Rattle.share.proofs.Exposures.{sum-fits}
 use Rattle.projection.proofs.PreparedYears.{raised-<}
 use Rattle.projection.proofs.prepared.ratio_at.Statement.{statement}
 use Rattle.projection.proofs.prepared.ratio_at.Tie as tie
@@ -23,7 +22,7 @@ raised-small : (c : tie.Start) → getD (c .args .t1) (c .args .first) 0 < 2 ^ 6
 raised-small c = raised-< (getD (c .args .t1) (c .args .first) 0) (c .pre .size)
 
 lowered-fits : (c : tie.Start) → SFits w64 (pos (getD (c .args .t1) (c .args .first) 0) -ℤ pos greatest-sum)
-lowered-fits c = fits-natAbs w64 (pos (getD (c .args .t1) (c .args .first) 0) -ℤ pos greatest-sum) greatest-sum (c .pre .size) (lit< tt)
+lowered-fits c = sum-fits (pos (getD (c .args .t1) (c .args .first) 0) -ℤ pos greatest-sum) (c .pre .size)
 
 cast-t8 : tie.Need-cast-t8
 cast-t8 c = record { sfits = raised-small c }
