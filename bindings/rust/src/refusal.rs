@@ -2,7 +2,7 @@
 
 use std::fmt;
 
-use crate::library::Verdict;
+use crate::verdict::Verdict;
 
 /// The place of a refusal; a year is 0 where the question names none.
 #[derive(Debug, Clone, Copy, PartialEq, Eq, Hash)]
@@ -173,7 +173,7 @@ pub(crate) fn result(verdict: Verdict) -> Result<(), Refusal> {
 #[cfg(test)]
 mod tests {
     use super::{result, Place, Question, Refusal, QUESTIONS};
-    use crate::library::Verdict;
+    use crate::verdict::Verdict;
 
     fn verdict(number: i64, accident_year: i64, development_year: i64) -> Verdict {
         Verdict {

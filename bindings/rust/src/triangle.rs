@@ -28,15 +28,6 @@ pub struct Triangle<'a> {
     pub openings: &'a [i64],
 }
 
-/// One of the two lists of amounts.
-#[derive(Debug, Clone, Copy, PartialEq, Eq, Hash)]
-pub enum AmountList {
-    /// The payments.
-    Payments,
-    /// The adjustments to the reported amounts.
-    Adjustments,
-}
-
 /// The length of the payments and of the adjustments of n accident years.
 pub const fn amounts_length(n: usize) -> usize {
     n * (n + 1) / 2

@@ -3,6 +3,7 @@
 use juniperprow::raw::Verdict;
 use juniperprow::{future_length, reserves_length, Reserve, Triangle};
 
+use crate::calls;
 use crate::document_01;
 use Figure::{Adjustment, Closing, Incurred, Outstanding, Paid, Payment};
 
@@ -221,8 +222,8 @@ fn check_figures(figures: &[(Figure, i64)], answer: &Reserve) -> Result<(), Stri
 
 /// Document 01 as the examples call it.
 pub fn by_document_01(triangle: &Triangle, future: &mut [i64], reserves: &mut [i64]) -> Verdict {
-    let development = document_01::develop(triangle);
-    let answer = document_01::reserve(triangle, &development, future.len(), reserves.len());
+    let developed = document_01::develop(triangle);
+    let answer = calls::reserve::answer(triangle, &developed, future.len(), reserves.len());
     future.copy_from_slice(&answer.future);
     reserves.copy_from_slice(&answer.reserves);
     answer.verdict

@@ -1,8 +1,9 @@
-//! The inputs of the calls: accepted triangles of every size, and calls that just miss a question.
+//! The inputs that the calls share: accepted triangles of every size, and rounds that just miss a question.
 
 mod figure_limit;
 mod near_miss;
 mod outline;
+mod places;
 
 use std::fmt;
 
@@ -11,6 +12,10 @@ use juniperprow::Triangle;
 use crate::random::Random;
 use near_miss::NearMiss;
 use outline::{Course, Outline, Payments};
+use places::Places;
+
+/// One round of calls in so many also goes through the binding's own functions.
+const ROUNDS_FOR_BINDING: u64 = 9;
 
 /// A number that is 0 to whoever keeps 32 bits of it.
 const LOST_IN_32_BITS: i64 = 1 << 32;
@@ -27,7 +32,10 @@ const EXTREMES: [i64; 7] = [
 ];
 
 /// Everything that one round of calls lends, and what it asks for.
-pub struct Call {
+pub struct Round {
+    pub seed: u64,
+    /// Its number among all rounds.
+    pub number: u64,
     pub years: i64,
     pub cut: i64,
     pub payments: Vec<i64>,
@@ -36,30 +44,47 @@ pub struct Call {
     pub openings: Vec<i64>,
     pub future_length: usize,
     pub reserves_length: usize,
-    /// The single cells asked for.
-    pub cells: Vec<(i64, i64)>,
-    /// The accident years whose rows are asked for.
-    pub accident_years: Vec<i64>,
+    /// The cells and accident years asked for.
+    pub places: Places,
 }
 
-impl Call {
-    /// The call with this number. Half of the calls are meant to be accepted.
-    pub fn numbered(seed: u64, number: u64) -> Call {
-        let mut random = Random::for_call(seed, number);
+impl Round {
+    /// The round with this number. Half of the rounds are meant to be accepted.
+    pub fn numbered(seed: u64, number: u64) -> Round {
+        let mut random = Random::for_round(seed, number);
         let misses = near_misses(&mut random);
         let mut outline = outline_for(&misses, &mut random);
         for miss in &misses {
             miss.change_outline(&mut outline, &mut random);
         }
-        let mut call = Call::from_outline(&outline, &mut random);
+        let n = outline.years;
+        let (payments, adjustments) = outline.amounts(&mut random);
+        let mut round = Round {
+            seed,
+            number,
+            years: n as i64,
+            cut: outline.cut as i64,
+            payments,
+            adjustments,
+            weights: outline.weight_list(),
+            openings: outline.openings(),
+            future_length: 3 * (n * (n - 1) / 2),
+            reserves_length: 3 * n,
+            places: Places::default(),
+        };
         for miss in &misses {
-            miss.change_call(&mut call, &mut random);
+            miss.change_round(&mut round, &mut random);
         }
-        call.ask_for_cells_and_rows(outline.years, &mut random);
-        call
+        round.places = Places::around(n, &mut random);
+        round
     }
 
-    /// What the call lends to be read.
+    /// Does this round also go through the binding's own functions?
+    pub fn tries_binding(&self) -> bool {
+        self.number % ROUNDS_FOR_BINDING == 0
+    }
+
+    /// What the round lends to be read.
     pub fn triangle(&self) -> Triangle<'_> {
         Triangle {
             years: self.years,
@@ -69,40 +94,6 @@ impl Call {
             weights: &self.weights,
             openings: &self.openings,
         }
-    }
-
-    fn from_outline(outline: &Outline, random: &mut Random) -> Call {
-        let n = outline.years;
-        let (payments, adjustments) = outline.amounts(random);
-        Call {
-            years: n as i64,
-            cut: outline.cut as i64,
-            payments,
-            adjustments,
-            weights: outline.weight_list(),
-            openings: outline.openings(),
-            future_length: 3 * (n * (n - 1) / 2),
-            reserves_length: 3 * n,
-            cells: vec![],
-            accident_years: vec![],
-        }
-    }
-
-    /// Asks for an unseen cell, for cells in and around the square of n years, and for cells far off.
-    fn ask_for_cells_and_rows(&mut self, n: usize, random: &mut Random) {
-        let i = random.index(2, n);
-        let k = random.index(n + 2 - i, n);
-        self.cells.push((i as i64, k as i64));
-        let beyond = n as i64 + 2;
-        let (i, k) = (random.between(-1, beyond), random.between(-1, beyond));
-        self.cells.push((i, k));
-        let wrapped = LOST_IN_32_BITS + n as i64;
-        let far = [random.pick(&EXTREMES), random.any(), i, n as i64, wrapped];
-        self.cells.push((random.pick(&far), random.pick(&far)));
-
-        self.accident_years.push(random.between(1, n as i64));
-        self.accident_years.push(random.between(-1, beyond));
-        self.accident_years.push(random.pick(&far));
     }
 }
 
@@ -145,7 +136,7 @@ fn outline_for(misses: &[NearMiss], random: &mut Random) -> Outline {
     Outline::new(years, cut, course, payments, random)
 }
 
-impl fmt::Display for Call {
+impl fmt::Display for Round {
     fn fmt(&self, formatter: &mut fmt::Formatter) -> fmt::Result {
         writeln!(formatter, "  years {}, cut {}", self.years, self.cut)?;
         writeln!(formatter, "  payments {:?}", self.payments)?;

@@ -3,6 +3,7 @@
 //! Run with `cargo run --release -- [seed] [calls]`; the seed may be hexadecimal, as in 0x1f.
 //! The exit status is 1 if an answer differs, or if some number or size was met too seldom.
 
+mod calls;
 mod comparison;
 mod document_01;
 mod examples;
@@ -16,7 +17,7 @@ use std::process::ExitCode;
 use std::thread;
 
 use comparison::Difference;
-use inputs::Call;
+use inputs::Round;
 use tally::Tally;
 
 const SEED: u64 = 0x2008_0001;
@@ -24,9 +25,6 @@ const CALLS: u64 = 200_000;
 
 /// The calls are dealt out in turn; the outcome does not depend on how many threads there are.
 const THREADS: u64 = 2;
-
-/// One round of calls in so many also goes through the binding's own functions.
-const ROUNDS_FOR_BINDING: u64 = 9;
 
 fn main() -> ExitCode {
     let mut arguments = std::env::args().skip(1);
@@ -61,8 +59,8 @@ fn run(seed: u64, calls: u64) -> Result<(), String> {
     println!("E1 to E12 are as document 01 has them\n");
 
     let tally = compare_all(seed, calls)?;
-    println!("{tally}");
-    let shortfalls = tally.shortfalls(calls);
+    println!("{}", calls::printed(&tally));
+    let shortfalls = tally.shortfalls(calls, &calls::demands());
     if !shortfalls.is_empty() {
         return Err(format!("met too seldom:\n{}", shortfalls.join("\n")));
     }
@@ -72,7 +70,7 @@ fn run(seed: u64, calls: u64) -> Result<(), String> {
 
 /// Compares all calls, each thread its part; describes the first call that differs.
 fn compare_all(seed: u64, calls: u64) -> Result<Tally, String> {
-    let mut tally = Tally::new();
+    let mut tally = Tally::default();
     let mut first_difference: Option<(u64, Difference)> = None;
     thread::scope(|scope| {
         let parts: Vec<_> = (0..THREADS)
@@ -89,31 +87,30 @@ fn compare_all(seed: u64, calls: u64) -> Result<Tally, String> {
     });
     match first_difference {
         None => Ok(tally),
-        Some((number, difference)) => Err(described(seed, number, &difference)),
+        Some((number, difference)) => Err(described(&Round::numbered(seed, number), &difference)),
     }
 }
 
 /// Compares the calls whose number leaves the rest `part`, up to the first that differs.
 fn compare_part(seed: u64, calls: u64, part: u64) -> (Tally, Option<(u64, Difference)>) {
-    let mut tally = Tally::new();
+    let mut tally = Tally::default();
     for number in (part..calls).step_by(THREADS as usize) {
-        let call = Call::numbered(seed, number);
-        let with_binding = number % ROUNDS_FOR_BINDING == 0;
-        if let Err(difference) = comparison::compare(&call, with_binding, &mut tally) {
+        let round = Round::numbered(seed, number);
+        if let Err(difference) = calls::compare(&round, &mut tally) {
             return (tally, Some((number, difference)));
         }
     }
     (tally, None)
 }
 
-fn described(seed: u64, number: u64, difference: &Difference) -> String {
+fn described(round: &Round, difference: &Difference) -> String {
+    let Round { seed, number, .. } = round;
     let Difference {
         subject,
         document_01,
         library,
     } = difference;
-    let call = Call::numbered(seed, number);
     format!(
-        "seed {seed:#x}, call {number} differs in: {subject}\n{call}  document 01 answers {document_01}\n  the library answers {library}"
+        "seed {seed:#x}, call {number} differs in: {subject}\n{round}  document 01 answers {document_01}\n  the library answers {library}"
     )
 }

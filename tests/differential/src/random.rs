@@ -5,14 +5,14 @@ pub struct Random {
 }
 
 impl Random {
-    /// The numbers of one call, which do not depend on any other call.
-    pub fn for_call(seed: u64, call: u64) -> Random {
+    /// The numbers of one round, which do not depend on any other round.
+    pub fn for_round(seed: u64, round: u64) -> Random {
         let mut of_seed = Random { state: seed };
-        let mut of_call = Random {
-            state: of_seed.next() ^ call,
+        let mut of_round = Random {
+            state: of_seed.next() ^ round,
         };
         Random {
-            state: of_call.next(),
+            state: of_round.next(),
         }
     }
 

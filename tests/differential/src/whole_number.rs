@@ -186,7 +186,7 @@ mod tests {
 
     #[test]
     fn long_numbers_keep_the_laws_of_addition() {
-        let mut random = Random::for_call(1, 1);
+        let mut random = Random::for_round(1, 1);
         for round in 0..2_000 {
             let factors: Vec<i64> = (0..round % 40)
                 .map(|_| random.between(1, 4_000_000_000_000))

@@ -1,11 +1,11 @@
-//! Changes that make a call miss a question, or meet it only just.
+//! Changes that make a round miss a question, or meet it only just.
 
 use super::figure_limit::{first_figure_at_limit, second_figure_at_limit};
 use super::outline::{Outline, LIMIT};
-use super::{Call, EXTREMES, LOST_IN_32_BITS};
+use super::{Round, EXTREMES, LOST_IN_32_BITS};
 use crate::random::Random;
 
-/// What a call just misses; most are named after what question they try.
+/// What a round just misses; most are named after what question they try.
 #[derive(Clone, Copy, PartialEq, Eq)]
 pub enum NearMiss {
     Years,
@@ -78,28 +78,28 @@ impl NearMiss {
         }
     }
 
-    /// Makes the change where it concerns the lists and numbers of a call.
-    pub fn change_call(&self, call: &mut Call, random: &mut Random) {
+    /// Makes the change where it concerns the lists and numbers of a round.
+    pub fn change_round(&self, round: &mut Round, random: &mut Random) {
         match self {
-            NearMiss::Years => change_years(call, random),
-            NearMiss::Cut => change_cut(call, random),
-            NearMiss::OtherCut => choose_other_cut(call, random),
-            NearMiss::Length => change_length(call, random),
+            NearMiss::Years => change_years(round, random),
+            NearMiss::Cut => change_cut(round, random),
+            NearMiss::OtherCut => choose_other_cut(round, random),
+            NearMiss::Length => change_length(round, random),
             NearMiss::Weight => {
                 let weight = random.pick(&[-1, 101, -100, i64::MIN, i64::MAX]);
-                put_anywhere(&mut call.weights, weight, random);
+                put_anywhere(&mut round.weights, weight, random);
             }
             NearMiss::Amount => {
                 let amount = beyond_amount_range(random);
-                put_anywhere(either_amount_list(call, random), amount, random);
+                put_anywhere(either_amount_list(round, random), amount, random);
             }
-            NearMiss::MissingCell => fill_missing_cell(call, random),
+            NearMiss::MissingCell => fill_missing_cell(round, random),
             NearMiss::Opening => {
                 let opening = random.pick(&[-1, LIMIT + 1, 0, LIMIT, i64::MIN, i64::MAX]);
-                put_anywhere(&mut call.openings, opening, random);
+                put_anywhere(&mut round.openings, opening, random);
             }
-            NearMiss::Extremes => put_extremes(call, random),
-            NearMiss::Garbage => fill_with_garbage(call, random),
+            NearMiss::Extremes => put_extremes(round, random),
+            NearMiss::Garbage => fill_with_garbage(round, random),
             _ => {}
         }
     }
@@ -110,56 +110,56 @@ impl NearMiss {
 // ---------------------------------------------------------------------------------------------
 
 /// A number of years outside 2 to 32, with lists of its own length where that is short.
-fn change_years(call: &mut Call, random: &mut Random) {
-    if call.years > 32 {
+fn change_years(round: &mut Round, random: &mut Random) {
+    if round.years > 32 {
         return;
     }
-    let wrapped = call.years.saturating_add(LOST_IN_32_BITS);
+    let wrapped = round.years.saturating_add(LOST_IN_32_BITS);
     let far = [i64::MIN, i64::MAX, random.any(), wrapped];
-    call.years = random.pick(&[[0, 1, 33, 34], [-1, 0, 1, 33], far])[random.below(4)];
-    if (0..=1).contains(&call.years) && random.one_in(2) {
-        let n = call.years as usize;
-        call.cut = random.between(0, 1);
-        call.payments.truncate(n);
-        call.adjustments.truncate(n);
-        call.weights.clear();
-        call.openings.clear();
-        call.future_length = 0;
-        call.reserves_length = 3 * n;
+    round.years = random.pick(&[[0, 1, 33, 34], [-1, 0, 1, 33], far])[random.below(4)];
+    if (0..=1).contains(&round.years) && random.one_in(2) {
+        let n = round.years as usize;
+        round.cut = random.between(0, 1);
+        round.payments.truncate(n);
+        round.adjustments.truncate(n);
+        round.weights.clear();
+        round.openings.clear();
+        round.future_length = 0;
+        round.reserves_length = 3 * n;
     }
 }
 
 /// A cut outside 1 to n - 1, half of the time with as many openings as it asks for.
-fn change_cut(call: &mut Call, random: &mut Random) {
-    let n = call.years;
-    let wrapped = call.cut.saturating_add(LOST_IN_32_BITS);
+fn change_cut(round: &mut Round, random: &mut Random) {
+    let n = round.years;
+    let wrapped = round.cut.saturating_add(LOST_IN_32_BITS);
     let far = [i64::MIN, i64::MAX, random.any(), wrapped];
-    call.cut = random.pick(&[[0, n, -1, n.saturating_add(1)], far])[random.below(4)];
-    if (1..=40).contains(&call.cut) && random.one_in(2) {
-        call.openings.resize(call.cut as usize - 1, 0);
+    round.cut = random.pick(&[[0, n, -1, n.saturating_add(1)], far])[random.below(4)];
+    if (1..=40).contains(&round.cut) && random.one_in(2) {
+        round.openings.resize(round.cut as usize - 1, 0);
     }
 }
 
 /// Another cut in range, half of the time with as many openings as it asks for.
-fn choose_other_cut(call: &mut Call, random: &mut Random) {
-    if (2..=32).contains(&call.years) {
-        call.cut = random.between(1, call.years - 1);
+fn choose_other_cut(round: &mut Round, random: &mut Random) {
+    if (2..=32).contains(&round.years) {
+        round.cut = random.between(1, round.years - 1);
         if random.one_in(2) {
-            call.openings.resize(call.cut as usize - 1, 1);
+            round.openings.resize(round.cut as usize - 1, 1);
         }
     }
 }
 
 /// One list too long, too short or empty, or one accident year more or less than the lists have.
-fn change_length(call: &mut Call, random: &mut Random) {
+fn change_length(round: &mut Round, random: &mut Random) {
     match random.below(7) {
-        0 => change_list_length(&mut call.payments, random),
-        1 => change_list_length(&mut call.adjustments, random),
-        2 => change_list_length(&mut call.weights, random),
-        3 => change_list_length(&mut call.openings, random),
-        4 => call.future_length = changed_length(call.future_length, random),
-        5 => call.reserves_length = changed_length(call.reserves_length, random),
-        _ => call.years = call.years.saturating_add(random.pick(&[-1, 1])),
+        0 => change_list_length(&mut round.payments, random),
+        1 => change_list_length(&mut round.adjustments, random),
+        2 => change_list_length(&mut round.weights, random),
+        3 => change_list_length(&mut round.openings, random),
+        4 => round.future_length = changed_length(round.future_length, random),
+        5 => round.reserves_length = changed_length(round.reserves_length, random),
+        _ => round.years = round.years.saturating_add(random.pick(&[-1, 1])),
     }
 }
 
@@ -179,11 +179,11 @@ fn beyond_amount_range(random: &mut Random) -> i64 {
     random.pick(&[LIMIT + 1, -LIMIT - 1, i64::MIN, i64::MAX, 2 * LIMIT])
 }
 
-fn either_amount_list<'a>(call: &'a mut Call, random: &mut Random) -> &'a mut Vec<i64> {
+fn either_amount_list<'a>(round: &'a mut Round, random: &mut Random) -> &'a mut Vec<i64> {
     if random.one_in(2) {
-        &mut call.payments
+        &mut round.payments
     } else {
-        &mut call.adjustments
+        &mut round.adjustments
     }
 }
 
@@ -194,42 +194,42 @@ fn put_anywhere(list: &mut [i64], number: i64, random: &mut Random) {
 }
 
 /// A payment or adjustment other than 0 in a missing cell.
-fn fill_missing_cell(call: &mut Call, random: &mut Random) {
-    let (n, cut) = (call.years, call.cut);
+fn fill_missing_cell(round: &mut Round, random: &mut Random) {
+    let (n, cut) = (round.years, round.cut);
     if (3..=34).contains(&n) && (2..n).contains(&cut) {
         let i = random.between(1, cut - 1);
         let k = random.between(1, cut - i);
         let position = ((i - 1) * (2 * n + 2 - i) / 2 + k - 1) as usize;
         let amount = random.pick(&[1, -1, LIMIT, -LIMIT, LIMIT + 1]);
-        if let Some(place) = either_amount_list(call, random).get_mut(position) {
+        if let Some(place) = either_amount_list(round, random).get_mut(position) {
             *place = amount;
         }
     }
 }
 
-fn put_extremes(call: &mut Call, random: &mut Random) {
+fn put_extremes(round: &mut Round, random: &mut Random) {
     for _ in 0..random.index(1, 4) {
         let number = match random.below(3) {
             0 => random.any(),
             _ => random.pick(&EXTREMES),
         };
         let list = match random.below(4) {
-            0 => &mut call.payments,
-            1 => &mut call.adjustments,
-            2 => &mut call.weights,
-            _ => &mut call.openings,
+            0 => &mut round.payments,
+            1 => &mut round.adjustments,
+            2 => &mut round.weights,
+            _ => &mut round.openings,
         };
         put_anywhere(list, number, random);
     }
 }
 
 /// Fills some lists with small numbers, with extremes, or with any.
-fn fill_with_garbage(call: &mut Call, random: &mut Random) {
+fn fill_with_garbage(round: &mut Round, random: &mut Random) {
     let lists = [
-        &mut call.payments,
-        &mut call.adjustments,
-        &mut call.weights,
-        &mut call.openings,
+        &mut round.payments,
+        &mut round.adjustments,
+        &mut round.weights,
+        &mut round.openings,
     ];
     for list in lists {
         let manner = random.below(4);
