@@ -65,6 +65,8 @@
  * What a call keeps to
  *
  * Nothing is allocated, and nothing is kept when the call returns.
+ * A call uses less than 8,192 bytes of stack on x86-64, with what memcpy and memset of the C library use.
+ * tools/stack measures that on accepted and refused triangles of every n. Signal handlers, and a loader that looks up those two in the first call, use stack besides.
  * Lists that a call reads are not altered.
  * Calls may run at the same time. They may read the same lists, but each writes answer lists of its own.
  */
