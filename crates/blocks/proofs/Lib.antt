@@ -1,5 +1,4 @@
--- The laws of a block: a list whose part was lent, weights filled in, and rows read one after another.
-pub mod ListParts
+-- The laws of a block: weights filled in, and rows read one after another.
 pub mod WeightsFilled
 pub mod BlocksRead
 pub mod RowsOfBlock

@@ -1,68 +1,39 @@
 -- Weights where a text gives none, filled in from the left.
 use mathlib.Core.Path.{_≡_, refl, sym, ap, ap₂, _∙_}
-use mathlib.Core.List.{List, [], _∷_, _++_, append-assoc, append-nil}
-use Prim.Native.Nat.{ℕ, suc, _+_, _-_, _≤_, _<_}
+use mathlib.Core.List.{List, _++_, append-assoc, append-nil}
+use Prim.Native.Nat.{ℕ, zero, suc, _+_, _-_, _≤_, _<_}
 use native.Mathlib.Nat.{suc-mul, mul-suc}
 use native.Mathlib.Numerals.{add-one}
 use native.Mathlib.Omega.{arith}
 use lib.IntN.{ℤ, pos}
-use lib.ListN.{length, take, drop, set, length-set}
-use lib.Seq.{take-suc-set, take-add, take-all, length-take-le}
+use lib.ListN.{length, getD, take, drop}
+use lib.Seq.{take-add, length-take-le}
+use Rattle.lists.proofs.Parts.{PartBack}
 use Rattle.method.specs.Triangle.{amounts-length}
 use Rattle.blocks.specs.Blocks.{default-row, default-from, default-weights}
-use Rattle.blocks.proofs.ListParts.{PartBack}
 
 -- ---- One row
 
-module _ (missing cells k : ℕ) (inside : k < cells) where
-  pub next-missing : k < missing → default-row (missing - k) (cells - k) ≡ pos 0 ∷ default-row (missing - (k + 1)) (cells - (k + 1))
-  unfolding default-row
-  next-missing h =
-      let more : missing - k ≡ suc (missing - (k + 1)) = omega arith in
-      let left : cells - k ≡ suc (cells - (k + 1)) = omega arith in
-      rw (more, left) refl
-
-  pub next-known : missing ≤ k → default-row (missing - k) (cells - k) ≡ pos 1 ∷ default-row (missing - (k + 1)) (cells - (k + 1))
-  unfolding default-row
-  next-known h =
-      let none : missing - k ≡ 0 = omega arith in
-      let still-none : missing - (k + 1) ≡ 0 = omega arith in
-      let left : cells - k ≡ suc (cells - (k + 1)) = omega arith in
-      rw (none, still-none, left) refl
-
--- the first k weights of a row stand in a list
-pub record RowFilled (missing : ℕ) (row₀ row : List ℤ) (k : ℕ) : Type 0 where
-  pub same-length : length row ≡ length row₀
-  pub within : k ≤ length row₀
-  pub goes-on : take k row ++ default-row (missing - k) (length row₀ - k) ≡ default-row missing (length row₀)
-
-pub none-filled : (missing : ℕ) (row₀ : List ℤ) → RowFilled missing row₀ row₀ 0
-none-filled missing row₀ =
-    let a : missing - 0 ≡ missing = omega arith in
-    let b : length row₀ - 0 ≡ length row₀ = omega arith in
-    record { same-length = refl; within = omega arith; goes-on = rw (a, b) refl }
-
-pub one-more-filled : {missing : ℕ} {row₀ row : List ℤ} {k : ℕ} (weight : ℤ) → RowFilled missing row₀ row k → k < length row₀
-    → default-row (missing - k) (length row₀ - k) ≡ weight ∷ default-row (missing - (k + 1)) (length row₀ - (k + 1))
-    → RowFilled missing row₀ (set row k weight) (k + 1)
-one-more-filled {missing} {row₀} {row} {k} weight so-far inside next = record {
-  same-length = length-set row k weight ∙ so-far .same-length;
-  within = omega arith;
-  goes-on =
-      ap (λ front. front ++ default-row (missing - (k + 1)) (length row₀ - (k + 1)))
-      (ap (λ n. take n (set row k weight)) (add-one k) ∙ take-suc-set row k weight (omega (arith, so-far .same-length)))
-      ∙ append-assoc (take k row) (weight ∷ []) (default-row (missing - (k + 1)) (length row₀ - (k + 1)))
-      ∙ ap (λ rest. take k row ++ rest) (sym next)
-      ∙ so-far .goes-on;
-}
-
-pub all-filled : {missing : ℕ} {row₀ row : List ℤ} {k : ℕ} → RowFilled missing row₀ row k → length row₀ ≤ k → row ≡ default-row missing (length row₀)
+pub row-length : (missing cells : ℕ) → length (default-row missing cells) ≡ cells
 unfolding default-row
-all-filled {missing} {row₀} {row} {k} so-far h =
-    let none : length row₀ - k ≡ 0 = omega arith in
-    sym (take-all k row (omega (arith, so-far .same-length)))
-    ∙ sym (append-nil (take k row))
-    ∙ (rw none at (so-far .goes-on))
+row-length missing zero = refl
+row-length zero (suc cells) = ap suc (row-length zero cells)
+row-length (suc missing) (suc cells) = ap suc (row-length missing cells)
+
+pub weight-missing : (missing cells k : ℕ) → k < cells → k < missing → pos 0 ≡ getD (default-row missing cells) k (pos 0)
+unfolding default-row
+weight-missing missing zero k inside h = absurd (omega arith)
+weight-missing zero (suc cells) k inside h = absurd (omega arith)
+weight-missing (suc missing) (suc cells) zero inside h = refl
+weight-missing (suc missing) (suc cells) (suc k) inside h = weight-missing missing cells k (omega arith) (omega arith)
+
+pub weight-known : (missing cells k : ℕ) → k < cells → missing ≤ k → pos 1 ≡ getD (default-row missing cells) k (pos 0)
+unfolding default-row
+weight-known missing zero k inside h = absurd (omega arith)
+weight-known zero (suc cells) zero inside h = refl
+weight-known zero (suc cells) (suc k) inside h = weight-known zero cells k (omega arith) (omega arith)
+weight-known (suc missing) (suc cells) zero inside h = absurd (omega arith)
+weight-known (suc missing) (suc cells) (suc k) inside h = weight-known missing cells k (omega arith) (omega arith)
 
 -- ---- Row after row
 

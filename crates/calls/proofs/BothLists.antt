@@ -15,17 +15,17 @@ use Rattle.method.specs.Demand3.{Demand-3}
 use Rattle.method.proofs.FirstRefusal.{not-both, stopped}
 use Rattle.method.proofs.WholeAnswers.{filled-verdict, accepted-answer, refused-answer}
 use Rattle.method.proofs.Demands.{demand-1-of-answer, demand-2-of-answer, demand-3-of-answer}
-use Rattle.questions.specs.declared.inputs.AnswerLists.the-variants.{OfLengths}
+use Rattle.questions.specs.declared.lengths.AnswerLists.the-variants.{FutureAndReserves}
 use Rattle.verdicts.specs.Verdicts.{verdict-of}
 use Rattle.triangle.specs.declared.reading.Reading.{Reading}
 use Rattle.triangle.specs.Reading.{ReadingOf}
-use Rattle.projected_rows.specs.ProjectedRows.{RowsProjected}
-use Rattle.calls.specs.Answers.{answer-of, Filled}
-use Rattle.projected_rows.proofs.OfTriangle.{question-9-is, future-is, reserves-is}
-use Rattle.projected_rows.proofs.ReadTriangles.{was-read, with-question-9}
+use Rattle.prepared_years.specs.Prepared.{YearsPrepared, ratios-of}
+use Rattle.run_off.specs.MethodRead.{method-read}
+use Rattle.run_off.proofs.ReadTriangles.{was-read, with-question-9, future-as-in-the-triangle, reserves-as-in-the-triangle}
+use Rattle.calls.specs.Answers.{answer-of, RowsProjected, Filled}
 
 module _ {t : Triangle} {future-before reserves-before : List ℤ} where
-  module _ {r : Reading} (e : ReadingOf t (OfLengths (length future-before) (length reserves-before)) r) where
+  module _ {r : Reading} (e : ReadingOf t (FutureAndReserves (length future-before) (length reserves-before)) r) where
     pub refused-before : {question : ℕ} {p : Place} → verdict-of (r .verdict) ≡ refused question p
         → Filled t future-before reserves-before (verdict-of (r .verdict)) future-before reserves-before
     unfolding questions
@@ -37,14 +37,15 @@ module _ {t : Triangle} {future-before reserves-before : List ℤ} where
       reserves-length = refl;
     }
 
-    pub projected : {v : Verdict} {future reserves : List ℤ} → verdict-of (r .verdict) ≡ accepted
-        → RowsProjected (n t) (r .development .ratios) (r .development .outstandings) v future reserves
+    pub projected : {v : Verdict} {future reserves : List ℤ} {before years : List (List ℕ)} → verdict-of (r .verdict) ≡ accepted
+        → YearsPrepared (n t) (r .development .ratios) before years
+        → RowsProjected (method-read (n t) (ratios-of years) (r .development .outstandings)) v future reserves
         → (length future ≡ length future-before) × (length reserves ≡ length reserves-before)
         → Filled t future-before reserves-before v future reserves
-    projected a p l = record {
-      verdict-is = with-question-9 e a (p .verdict-is ∙ question-9-is (was-read e a));
-      future-is = λ b. p .future-is b ∙ future-is (was-read e a);
-      reserves-are = λ b. p .reserves-are b ∙ reserves-is (was-read e a);
+    projected a p rows l = record {
+      verdict-is = with-question-9 e a p (rows .verdict-is);
+      future-is = λ b. rows .future-is b ∙ future-as-in-the-triangle (was-read e a) p;
+      reserves-are = λ b. rows .reserves-are b ∙ reserves-as-in-the-triangle (was-read e a) p;
       future-length = l .0;
       reserves-length = l .1;
     }

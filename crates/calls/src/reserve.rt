@@ -11,9 +11,12 @@ ghost use Rattle.verdicts.specs.Verdicts.{verdict-of};
 ghost use Rattle.questions.specs.Inputs.{triangle-of};
 ghost use Rattle.calls.specs.Answers.{answer-of, Filled};
 use crate::all_rows::project;
-use projection::lists::clear;
-use questions::inputs::AnswerLists;
+use lists::clear;
+use prepared_years::NUMBERS_OF_A_YEAR;
+use prepared_years::prepare_years;
+use questions::lengths::AnswerLists;
 use triangle::reading::read;
+use verdicts::limits::DEVELOPMENT_YEARS;
 use verdicts::verdict::Verdict;
 
 // The verdict of questions 1 to 9. Where they accept, the future list and the reserve list are document 01's; else both hold zeros throughout.
@@ -76,7 +79,7 @@ fn fill<'a>(
         (triangle-of years cut (now (payments .entry)) (now (adjustments .entry)) (now (weights .entry)) (now (openings .entry)))
         (now (future .entry)) (now (reserves .entry)) (verdict-of r) (now (future .exit)) (now (reserves .exit)) ⌝ }
 {
-    let answers = AnswerLists::OfLengths(future.len(), reserves.len());
+    let answers = AnswerLists::FutureAndReserves(future.len(), reserves.len());
     let reading = read(
         years,
         cut,
@@ -90,6 +93,11 @@ fn fill<'a>(
     let Verdict::Accepted = verdict else {
         return verdict;
     };
+    let n = years as usize;
     let development = reading.development;
-    project(years as usize, development, future, reserves)
+    let ratios = development.ratios;
+    let mut prepared = [[0; NUMBERS_OF_A_YEAR]; DEVELOPMENT_YEARS];
+    prepare_years(n, ratios, &mut prepared);
+    let outstandings = development.outstandings;
+    project(n, &prepared, &outstandings, future, reserves)
 }

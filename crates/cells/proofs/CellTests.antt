@@ -1,5 +1,5 @@
--- Questions 4, 5 and 7: one cell that passed or was refused, a row as a part of its list, and the questions as tests of whole lists.
-use mathlib.Core.Path.{_≡_, refl, sym, ap, _∙_}
+-- Questions 4, 5 and 7: one cell that passed or was refused, and a row as a part of its list.
+use mathlib.Core.Path.{_≡_, sym, ap, _∙_}
 use mathlib.Core.Bool.{true, false}
 use mathlib.Core.List.{List}
 use Prim.Native.Nat.{ℕ, suc, _+_, _-_, _<_}
@@ -7,15 +7,13 @@ use native.Mathlib.Numerals.{add-one}
 use native.Mathlib.Omega.{arith}
 use lib.IntN.{ℤ, pos}
 use lib.ListN.{length, getD}
-use Rattle.method.specs.Triangle.{Triangle, n, Y, amounts-length, cell, entry}
-use Rattle.method.specs.Verdicts.{Verdict, accepted, refused, at, ask, _then_, first-to, each-in-row}
-use Rattle.method.specs.Questions.{question-4, question-5, question-7}
+use Rattle.method.specs.Triangle.{amounts-length, cell, entry}
+use Rattle.method.specs.Verdicts.{Verdict, accepted, refused, at, ask, first-to, each-in-row}
 use Rattle.method.proofs.FirstRefusal.{ask-yes, ask-no, first-same}
 use Rattle.method.proofs.Positions.{entry-at}
 use Rattle.method.proofs.Rows.{part-length, part-holds}
 use Rattle.cells.specs.declared.CellTest.{CellTest}
-use Rattle.cells.specs.declared.CellTest.the-variants.{WeightInRange, AmountRight, WeightAllowed}
-use Rattle.cells.specs.Cells.{number-of, passes, cell-of-row, row-of-list, whole-list, row-part}
+use Rattle.cells.specs.Cells.{number-of, passes, cell-of-row, row-of-list, row-part}
 
 -- ---- Number j of a row, counted from 0
 
@@ -56,18 +54,3 @@ row-as-part test cut n xs r l long =
         let e : entry (row-part n r xs) (suc j) ≡ cell (pos 0) n xs (r + 1) (suc j) =
         part-entry n r xs long j (omega arith) ∙ ap (λ (i : ℕ). cell (pos 0) n xs i (suc j)) (sym (add-one r)) in
         ap (λ (x : ℤ). ask (passes test cut (r + 1) (suc j) x) (number-of test) (at (r + 1) (suc j))) e
-
--- ---- The questions as tests of whole lists
-
-module _ (t : Triangle) where
-  pub question-4-is : whole-list WeightInRange (Y t) (n t - 1) (t .weights) ≡ question-4 t
-  unfolding whole-list question-4
-  question-4-is = refl
-
-  pub question-5-is : (whole-list AmountRight (Y t) (n t) (t .payments) then whole-list AmountRight (Y t) (n t) (t .adjustments)) ≡ question-5 t
-  unfolding whole-list question-5
-  question-5-is = refl
-
-  pub question-7-is : whole-list WeightAllowed (Y t) (n t - 1) (t .weights) ≡ question-7 t
-  unfolding whole-list question-7
-  question-7-is = refl

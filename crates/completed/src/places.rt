@@ -2,11 +2,11 @@
 ghost use mathlib.Core.Path.{_≡_};
 ghost use Prim.Native.Nat.{_+_, _-_, _≤_, _<_};
 ghost use lib.IntN.{pos};
-ghost use lib.ListN.{getD};
 ghost use Rattle.method.specs.Limits.{most-accident-years};
 ghost use Rattle.method.specs.Triangle.{cell};
 ghost use Rattle.method.specs.AnswerPlaces.{cell-figure, year-figure};
 ghost use Rattle.completed.specs.Completed.{CellOfSquare};
+use lists::number_at;
 
 // Cell (i, k) of a list whose rows have n, n − 1, … cells; 0 where the list has ended.
 pub fn cell_at(n: usize, list: &[i64], i: usize, k: usize) -> i64
@@ -39,11 +39,4 @@ pub fn reserve_at(reserves: &[i64], figure: usize, i: usize) -> i64
         return number_at(reserves, figure);
     }
     number_at(reserves, 3 * (i - 1) + figure)
-}
-
-// A number of a list, 0 where it has ended.
-fn number_at(list: &[i64], at: usize) -> i64
-    ensures { λ r. ⌜ r ≡ getD (now (list .entry)) at (pos 0) ⌝ }
-{
-    if at < list.len() { list[at] } else { 0 }
 }

@@ -67,4 +67,4 @@ module _ (text : List ℕ) (separator : ℕ) (heading : LineKind) where
 pub found-line : (text : List ℕ) (separator : ℕ) (heading : LineKind) (r : Heading) → HeadingFound text separator heading r
     → (line : List ℕ) → line ≡ first-of (lines (take (length text - r .start) (drop (r .start) text)))
     → line ≡ heading-line separator heading (lines text)
-found-line text separator heading r found line is = first-of-rest text (r .start) line is (found .start-within) ∙ ap first-of (found .from-there)
+found-line text separator heading r found line is = first-of-rest text (r .start) line is ∙ ap first-of (found .from-there)

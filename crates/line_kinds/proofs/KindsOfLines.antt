@@ -8,11 +8,12 @@ use borrow.Author.Tests.{eq-eqb, ne-eqb}
 use lib.Dec.{eqb}
 use lib.ListN.{length, getD, take, drop, drop-of-length-le}
 use lib.Seq.{drop-cons}
+use Rattle.lists.proofs.Parts.{whole-rest}
 use Rattle.text.specs.Bytes.{double-quote, is-letter}
 use Rattle.text.specs.Search.{before, from}
 use Rattle.line_parts.specs.Words.{word}
 use Rattle.text.specs.declared.search.Sought.the-variants.{NotSpace, NeitherSpaceNor}
-use Rattle.text.proofs.Searches.{whole-rest, found-within, from-found}
+use Rattle.text.proofs.Searches.{found-within, from-found}
 use Rattle.line_kinds.specs.Kinds.{begins-with-letter, begins-heading, blank-or-separators, heading-of, kind-from, kind-of}
 use Rattle.line_kinds.specs.declared.kinds.LineKind.the-variants.{Blank, Separators, Row}
 
@@ -77,7 +78,7 @@ module _ (text : List ℕ) (some : length text ≡ 0 → ⊥) where
       go (byte ∷ text) some = refl
 
   pub heading-after-quote : getD text 0 0 ≡ double-quote → begins-with-letter (take (length text - 1) (drop 1 text)) ≡ begins-heading text
-  heading-after-quote quote = ap begins-with-letter (whole-rest text 1 (omega (arith, some))) ∙ sym (rw (eq-eqb _ _ quote) at first-byte)
+  heading-after-quote quote = ap begins-with-letter (whole-rest text 1) ∙ sym (rw (eq-eqb _ _ quote) at first-byte)
 
   pub heading-without-quote : (getD text 0 0 ≡ double-quote → ⊥) → is-letter (getD text 0 0) ≡ begins-heading text
   heading-without-quote other = sym (rw (ne-eqb _ _ other) at first-byte)

@@ -3,16 +3,18 @@ use mathlib.Core.Path.{_≡_, refl, sym, ap, _∙_}
 use mathlib.Core.Bool.{false, _&&_, cond, and-false}
 use mathlib.Core.List.{List, [], _∷_, _++_}
 use Prim.Native.Nat.{ℕ, zero, suc, _+_, _-_, _≤_, _<_}
+use native.Mathlib.Nat.{add-sub-cancel-left}
 use native.Mathlib.Omega.{arith}
 use borrow.Author.Tests.{ne-eqb}
 use lib.Dec.{eqb}
-use lib.ListN.{length, getD, take, drop, length-drop}
+use lib.ListN.{length, getD, take, drop}
 use lib.Seq.{take-suc}
+use Rattle.lists.proofs.Parts.{whole-rest, rest-within}
 use Rattle.text.specs.Bytes.{space}
 use Rattle.text.specs.Search.{before}
 use Rattle.line_parts.specs.Cells.{is-empty, without-last-spaces, trimmed}
 use Rattle.text.specs.declared.search.Sought.the-variants.{NotSpace}
-use Rattle.text.proofs.Searches.{whole-rest, found-within, from-found}
+use Rattle.text.proofs.Searches.{found-within, from-found}
 
 -- ---- One byte more at the end
 
@@ -59,13 +61,12 @@ module _ (text : List ℕ) (first last : ℕ) (is : first ≡ length (before Not
   first-within = found-within NotSpace text first is
 
   pub last-within : last ≤ length (take (length text - first) (drop first text)) → first + last ≤ length text
-  last-within h = omega (arith, first-within, ap length (whole-rest text first first-within), length-drop first text)
+  last-within = rest-within text first first-within
 
   pub part-trimmed : take last (take (length text - first) (drop first text)) ≡ without-last-spaces (take (length text - first) (drop first text))
       → take (first + last - first) (drop first text) ≡ trimmed text
   unfolding trimmed
   part-trimmed e =
-      let amount : first + last - first ≡ last = omega arith in
-      ap (λ n. take n (drop first text)) amount
-      ∙ rw (whole-rest text first first-within) at e
+      ap (λ n. take n (drop first text)) (add-sub-cancel-left first last)
+      ∙ rw (whole-rest text first) at e
       ∙ ap without-last-spaces (from-found NotSpace text first is)

@@ -3,15 +3,17 @@ use mathlib.Core.Path.{_≡_, refl, sym, ap, _∙_}
 use mathlib.Core.Bool.{true, false}
 use mathlib.Core.List.{List, [], _∷_}
 use Prim.Native.Nat.{ℕ, _+_, _-_, _≤_, _<_}
+use native.Mathlib.Nat.{add-sub-cancel-left}
 use native.Mathlib.Omega.{arith}
 use borrow.Author.Tests.{eq-eqb, ne-eqb, lt-ltb, le-ltb}
 use lib.Dec.{ltb}
 use lib.ListN.{length, getD, take, drop, length-drop}
+use Rattle.lists.proofs.Parts.{whole-rest}
 use Rattle.text.specs.Bytes.{double-quote}
 use Rattle.text.specs.Search.{before, from}
 use Rattle.line_parts.specs.Cells.{first-cell}
 use Rattle.text.specs.declared.search.Sought.the-variants.{Byte, NotSpace}
-use Rattle.text.proofs.Searches.{whole-rest, before-within, found-within, from-found}
+use Rattle.text.proofs.Searches.{before-within, from-found}
 use Rattle.met_text.specs.Met.{quoted-length, met-first}
 
 pub nothing-quoted : (text : List ℕ) → length text ≡ 0 → 0 ≡ quoted-length text
@@ -27,7 +29,7 @@ no-quote-first text other = rw (ne-eqb _ _ other)
 module _ (text : List ℕ) (some : length text ≡ 0 → ⊥) (inside : ℕ)
     (is : inside ≡ length (before (Byte double-quote) (take (length text - 1) (drop 1 text)))) where
   is-inside : inside ≡ length (before (Byte double-quote) (drop 1 text))
-  is-inside = is ∙ ap (λ rest. length (before (Byte double-quote) rest)) (whole-rest text 1 (omega (arith, some)))
+  is-inside = is ∙ ap (λ rest. length (before (Byte double-quote) rest)) (whole-rest text 1)
 
   pub inside-within : inside + 1 ≤ length text
   inside-within = omega (arith, some, is-inside, before-within (Byte double-quote) (drop 1 text), length-drop 1 text)
@@ -50,7 +52,7 @@ module _ (text : List ℕ) (some : length text ≡ 0 → ⊥) (inside : ℕ)
 module _ (separator : ℕ) (rest : List ℕ) (start quoted : ℕ) (found : start ≡ length (before NotSpace rest))
     (is : quoted ≡ quoted-length (take (length rest - start) (drop start rest))) where
   content : take (length rest - start) (drop start rest) ≡ from NotSpace rest
-  content = whole-rest rest start (found-within NotSpace rest start found) ∙ from-found NotSpace rest start found
+  content = whole-rest rest start ∙ from-found NotSpace rest start found
 
   quoted-in-content : quoted ≡ quoted-length (from NotSpace rest)
   quoted-in-content = is ∙ ap quoted-length content
@@ -62,6 +64,5 @@ module _ (separator : ℕ) (rest : List ℕ) (start quoted : ℕ) (found : start
   pub met-in-quotes : (quoted ≡ 0 → ⊥) → take (start + quoted - start) (drop start rest) ≡ met-first separator rest
   unfolding met-first
   met-in-quotes some =
-      let length-is : start + quoted - start ≡ quoted = omega arith in
       rw (ne-eqb (quoted-length (from NotSpace rest)) 0 (λ none. some (quoted-in-content ∙ none)))
-      (ap (λ n. take n (drop start rest)) (length-is ∙ quoted-in-content) ∙ ap (take (quoted-length (from NotSpace rest))) (from-found NotSpace rest start found))
+      (ap (λ n. take n (drop start rest)) (add-sub-cancel-left start quoted ∙ quoted-in-content) ∙ ap (take (quoted-length (from NotSpace rest))) (from-found NotSpace rest start found))

@@ -11,6 +11,7 @@ pub mod Rows
 pub mod Sums
 pub mod SumBounds
 pub mod RunOff
+pub mod SameRows
 pub mod KeptAllowances
 pub mod Projection
 pub mod Readings

@@ -35,15 +35,15 @@ module _ (t : Triangle) where
   in-order : (right : Bool) (later : Verdict) → (questions t right then later)
       ≡ (question-1 (t .years) then question-2 (t .years) (t .cut) then question-3 right
       then question-4 t then each-cell (n t) 5 (λ i k. amount-right (Y t) i k (S t i k)) then each-cell (n t) 5 (λ i k. amount-right (Y t) i k (T t i k))
-      then question-6 t then question-7 t then question-8 t then question-9 t then later)
+      then question-6 t then question-7 t then question-8 t then question-9 (method t) then later)
   unfolding questions observed-questions input-questions list-questions question-5
   in-order right later = simp then-assoc
 
   -- question 9: row by row, and in row i the years after the last observed one
-  question-9-answers : Answers (question-9 t) (question-of-cells 9 (λ i k. (i ≤ n t) × (k ≤ n t) × (n t + 1 < i + k)) (λ i k. Figures-right (movement (method t) i (k - 1))))
+  question-9-answers : Answers (question-9 (method t)) (question-of-cells 9 (λ i k. (i ≤ n t) × (k ≤ n t) × (n t + 1 < i + k)) (λ i k. Figures-right (movement (method t) i (k - 1))))
   unfolding question-9 question-9-of-year
   question-9-answers =
-      asked-row-by-row _ (n t) (question-9-of-year t) (λ i k x. (omega (arith, x .1, x .2), x .0))
+      asked-row-by-row _ (n t) (question-9-of-year (method t)) (λ i k x. (omega (arith, x .1, x .2), x .0))
       (λ i p l. asked-in-row _ i (i - 1) (λ j. suc (year-before (method t) i j)) (λ j. figures-in-range (movement (method t) i (year-before (method t) i j)))
       (λ a k x. (x .0, projected-year i k l x))
       (λ j j′ h. omega arith)

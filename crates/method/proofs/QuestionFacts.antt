@@ -1,7 +1,7 @@
 -- What each question leaves when it accepts, as facts on the triangle, and all of it for an accepted triangle.
 use mathlib.Core.Path.{_≡_, refl, subst}
 use mathlib.Core.Bool.{Bool, true}
-use Prim.Native.Nat.{ℕ, suc, _+_, _-_, _≤_, _<_}
+use Prim.Native.Nat.{ℕ, _+_, _-_, _≤_, _<_}
 use native.Mathlib.Omega.{arith}
 use lib.Dec.{leb→le}
 use lib.IntN.{ℤ, pos, negsuc, _+ℤ_, _-ℤ_, natAbs}
@@ -15,7 +15,7 @@ use Rattle.method.specs.Limits.{fewest-years, most-years, greatest-weigh
 use Rattle.method.specs.Triangle.{Triangle, n, Y, S, T, w, amounts-length, weights-length, openings-length, future-length, reserves-length}
 use Rattle.method.specs.Outstandings.{R, sums}
 use Rattle.method.specs.ProjectedYear.{Movement}
-use Rattle.method.specs.RunOff.{movement, year-before, method}
+use Rattle.method.specs.RunOff.{Method, movement, year-before, method}
 use Rattle.method.specs.Verdicts.{accepted, at, nowhere, ask, each-cell}
 use Rattle.method.specs.Tests.{from-to, weight-in-range, amount-right, outstanding-in-range, weight-allowed}
 use Rattle.method.specs.Tests.{years-in-range, cut-in-range}
@@ -146,18 +146,19 @@ module _ (t : Triangle) where
       first-accepted (n t - 1) (λ k. ask (ltZ (pos 0) (sums t k .D)) 8 (at 0 k)) e k p (omega arith) in
       says-< (pos 0) (sums t k .D) .sound (ask-accepted (ltZ (pos 0) (sums t k .D)) 8 (at 0 k) asked)
 
-  pub figures-allowed : question-9 t ≡ accepted → (i k : ℕ) → Projected (n t) i k → FiguresInRange (movement (method t) i k)
-  unfolding question-9 question-9-of-year
-  figures-allowed e i k p =
-      let j : ℕ = i + k - n t in
-      let s : year-before (method t) i j ≡ k = omega (arith, p .row, p .after) in
-      let year : question-9-of-year t i ≡ accepted = first-accepted (n t) (question-9-of-year t) e i (omega (arith, p .after, p .year)) (p .row) in
-      let m : Movement = movement (method t) i (year-before (method t) i j) in
-      let asked : ask (figures-in-range m) 9 (at i (suc (year-before (method t) i j))) ≡ accepted =
-      first-accepted (i - 1) (λ j. ask (figures-in-range (movement (method t) i (year-before (method t) i j))) 9 (at i (suc (year-before (method t) i j))))
-      year j (omega (arith, p .after)) (omega (arith, p .after, p .year)) in
-      subst (λ (x : ℕ). FiguresInRange (movement (method t) i x)) s
-      (figures-in-range-true m (ask-accepted (figures-in-range m) 9 (at i (suc (year-before (method t) i j))) asked))
+-- question 9 of one accident year, and of all
+module _ (m : Method) where
+  pub year-figures-allowed : (i : ℕ) → question-9-of-year m i ≡ accepted → (k : ℕ) → Projected (m .years) i k → FiguresInRange (movement m i k)
+  unfolding question-9-of-year
+  year-figures-allowed i e k p =
+      let j : ℕ = i + k - m .years in
+      let s : year-before m i j ≡ k = omega (arith, p .row, p .after) in
+      subst (λ (x : ℕ). FiguresInRange (movement m i x)) s
+      (figures-in-range-true _ (ask-accepted _ 9 _ (first-accepted (i - 1) _ e j (omega (arith, p .after)) (omega (arith, p .after, p .year)))))
+
+  pub figures-allowed : question-9 m ≡ accepted → (i k : ℕ) → Projected (m .years) i k → FiguresInRange (movement m i k)
+  unfolding question-9
+  figures-allowed e i k p = year-figures-allowed i (first-accepted (m .years) (question-9-of-year m) e i (omega (arith, p .after, p .year)) (p .row)) k p
 
 -- ---- All questions
 
@@ -215,7 +216,7 @@ accepted-triangle t right lengths e =
     record {
       observed = observed-triangle t right lengths inputs;
       exposure = exposures-positive t q₈;
-      figures = figures-allowed t q₉;
+      figures = figures-allowed (method t) q₉;
     }
 
 -- ---- Question 10 of a cell

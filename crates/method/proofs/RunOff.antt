@@ -8,9 +8,9 @@ use lib.IntN.{ℤ, pos, _+ℤ_, _-ℤ_, _*ℤ_}
 use Rattle.integers.specs.Fraction.{_over_}
 use Rattle.integers.proofs.RingSolver.{con, _:+_, _:-_, _:=_, ring}
 use Rattle.method.specs.Limits.{one-unit}
-use Rattle.method.specs.Counting.{up-to, sum-to}
+use Rattle.method.specs.Counting.{up-to}
 use Rattle.method.specs.ProjectedYear.{Year}
-use Rattle.method.specs.RunOff.{Method, account, O, U, A, movement, unrounded-movement, allowance, last-observed, first-outstanding, year-before, paid-reserve, incurred-reserve, closing}
+use Rattle.method.specs.RunOff.{Method, account, O, U, A, movement, unrounded-movement, allowance, last-observed, first-outstanding, year-before, payments-to, adjustments-to, paid-reserve, incurred-reserve, closing}
 
 -- ---- An account of a row
 
@@ -56,18 +56,12 @@ abbrev pub Moves : Method → Type 0
 Moves m = (i k : ℕ) (r : ℤ) → m .rounded i k r .outstanding ≡ r -ℤ m .rounded i k r .payment +ℤ m .rounded i k r .adjustment
 
 module _ (m : Method) (moves : Moves m) (i : ℕ) (h : i ≤ m .years) where
-  payments-to : ℕ → ℤ
-  payments-to j = sum-to j (λ j. movement m i (year-before m i j) .payment)
-
-  adjustments-to : ℕ → ℤ
-  adjustments-to j = sum-to j (λ j. movement m i (year-before m i j) .adjustment)
-
   movement-outstanding : (k : ℕ) → movement m i k .outstanding ≡ O m i k -ℤ movement m i k .payment +ℤ movement m i k .adjustment
   unfolding movement
   movement-outstanding k = moves i k (O m i k)
 
-  outstanding-by-movements : (j : ℕ) → j ≤ i - 1 → O m i (last-observed m i + j) ≡ first-outstanding m i -ℤ payments-to j +ℤ adjustments-to j
-  unfolding payments-to adjustments-to up-to
+  outstanding-by-movements : (j : ℕ) → j ≤ i - 1 → O m i (last-observed m i + j) ≡ first-outstanding m i -ℤ payments-to m i j +ℤ adjustments-to m i j
+  unfolding up-to
   outstanding-by-movements zero l =
       ap (λ (x : ℕ). O m i x) (add-zero (last-observed m i)) ∙ O-observed m i (last-observed m i) (omega arith)
       ∙ ring 1 (λ x. x := x :- con (pos 0) :+ con (pos 0)) tt (first-outstanding m i)
@@ -80,11 +74,11 @@ module _ (m : Method) (moves : Moves m) (i : ℕ) (h : i ≤ m .years) where
       ∙ movement-outstanding k
       ∙ ap (λ (x : ℤ). x -ℤ movement m i k .payment +ℤ movement m i k .adjustment) (ap (λ (x : ℕ). O m i x) u ∙ outstanding-by-movements j (omega arith))
       ∙ ring 5 (λ x a b p q. x :- a :+ b :- p :+ q := x :- (a :+ p) :+ (b :+ q)) tt
-      (first-outstanding m i) (payments-to j) (adjustments-to j) (movement m i k .payment) (movement m i k .adjustment)
+      (first-outstanding m i) (payments-to m i j) (adjustments-to m i j) (movement m i k .payment) (movement m i k .adjustment)
 
 pub incurred-less-paid-is-closing : (m : Method) → Moves m → (i : ℕ) → 1 ≤ i → i ≤ m .years → incurred-reserve m i -ℤ paid-reserve m i ≡ closing m i
-unfolding incurred-reserve paid-reserve closing payments-to adjustments-to
+unfolding incurred-reserve paid-reserve closing
 incurred-less-paid-is-closing m moves i p h =
     let e : last-observed m i + (i - 1) ≡ m .years = omega arith in
-    ring 3 (λ x p a. x :+ a :- p := x :- p :+ a) tt (first-outstanding m i) (payments-to m moves i h (i - 1)) (adjustments-to m moves i h (i - 1))
+    ring 3 (λ x p a. x :+ a :- p := x :- p :+ a) tt (first-outstanding m i) (payments-to m i (i - 1)) (adjustments-to m i (i - 1))
     ∙ sym (outstanding-by-movements m moves i h (i - 1) (omega arith)) ∙ ap (λ (x : ℕ). O m i x) e

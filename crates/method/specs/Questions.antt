@@ -10,7 +10,7 @@ use Rattle.method.specs.Tests.{from-to, years-in-range, cut-in-range, we
 use Rattle.method.specs.Triangle.{Triangle, amounts-length, weights-length, openings-length, future-length, reserves-length, n, Y, S, T, w}
 use Rattle.method.specs.Outstandings.{R, sums}
 use Rattle.method.specs.ProjectedYear.{Movement}
-use Rattle.method.specs.RunOff.{movement, year-before, method}
+use Rattle.method.specs.RunOff.{Method, movement, year-before, method}
 
 -- ---- Questions 1 to 3; a row's call asks 1 and 3 too
 
@@ -44,7 +44,7 @@ module _ (t : Triangle) where
   lengths-right future-room reserves-room =
       input-lengths-right && eqb future-room (future-length (n t)) && eqb reserves-room (reserves-length (n t))
 
-  -- ---- Questions 4 to 9
+  -- ---- Questions 4 to 8
 
   unfoldable pub question-4 : Verdict
   question-4 = each-cell (n t - 1) 4 (λ i k. weight-in-range (w t i k))
@@ -63,18 +63,22 @@ module _ (t : Triangle) where
   unfoldable pub question-8 : Verdict
   question-8 = first-to (n t - 1) (λ k. ask (ltZ (pos 0) (sums t k .D)) 8 (at 0 k))
 
+-- ---- Question 9, of any method
+
+module _ (m : Method) where
   -- the projected years of accident year i
   unfoldable pub question-9-of-year : ℕ → Verdict
-  question-9-of-year i = first-to (i - 1) (λ j. ask (figures-in-range (movement (method t) i (year-before (method t) i j))) 9 (at i (suc (year-before (method t) i j))))
+  question-9-of-year i = first-to (i - 1) (λ j. ask (figures-in-range (movement m i (year-before m i j))) 9 (at i (suc (year-before m i j))))
 
   unfoldable pub question-9 : Verdict
-  question-9 = first-to (n t) question-9-of-year
+  question-9 = first-to (m .years) question-9-of-year
 
-  -- ---- In the order in which they are asked
+-- ---- In the order in which they are asked
 
+module _ (t : Triangle) where
   -- 4 to 7, of the lists, each whole
   unfoldable pub list-questions : Verdict
-  list-questions = question-4 then question-5 then question-6 then question-7
+  list-questions = question-4 t then question-5 t then question-6 t then question-7 t
 
   -- 1 to 7, of all that is lent; a call for a single cell lends no answer lists, so question 3 is given its answer
   unfoldable pub input-questions : Bool → Verdict
@@ -82,11 +86,11 @@ module _ (t : Triangle) where
 
   -- 1 to 8, all that is asked before a year is projected
   unfoldable pub observed-questions : Bool → Verdict
-  observed-questions right = input-questions right then question-8
+  observed-questions right = input-questions right then question-8 t
 
   -- 1 to 9
   unfoldable pub questions : Bool → Verdict
-  questions right = observed-questions right then question-9
+  questions right = observed-questions right then question-9 (method t)
 
 -- ---- Question 10, of a single cell and of a row
 

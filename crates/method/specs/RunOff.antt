@@ -72,21 +72,31 @@ module _ (m : Method) where
   abbrev pub year-before : ℕ → ℕ → ℕ
   year-before i j = m .years - i + j
 
+  -- Of the first j projected years of accident year i: their figures, three a year, and the sums of their payments and of their adjustments.
+  abbrev pub figures-to : ℕ → ℕ → List ℤ
+  figures-to i j = list-to j (λ j. figures (movement i (year-before i j)))
+
+  abbrev pub payments-to : ℕ → ℕ → ℤ
+  payments-to i j = sum-to j (λ j. movement i (year-before i j) .payment)
+
+  abbrev pub adjustments-to : ℕ → ℕ → ℤ
+  adjustments-to i j = sum-to j (λ j. movement i (year-before i j) .adjustment)
+
   -- ---- The future list and the reserve list; both are terms of document 01
 
   unfoldable pub future-row : ℕ → List ℤ
-  future-row i = list-to (i - 1) (λ j. figures (movement i (year-before i j)))
+  future-row i = figures-to i (i - 1)
 
   unfoldable pub future : List ℤ
   future = list-to (m .years) future-row
 
   -- the paid-based reserve
   unfoldable pub paid-reserve : ℕ → ℤ
-  paid-reserve i = sum-to (i - 1) (λ j. movement i (year-before i j) .payment)
+  paid-reserve i = payments-to i (i - 1)
 
   -- the incurred-based reserve
   unfoldable pub incurred-reserve : ℕ → ℤ
-  incurred-reserve i = first-outstanding i +ℤ sum-to (i - 1) (λ j. movement i (year-before i j) .adjustment)
+  incurred-reserve i = first-outstanding i +ℤ adjustments-to i (i - 1)
 
   -- the outstanding of year n; "closing" is a term of document 01
   unfoldable pub closing : ℕ → ℤ

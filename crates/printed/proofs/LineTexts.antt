@@ -1,11 +1,11 @@
 -- The text of a line grows to the right, and what has no room is cut off.
 use mathlib.Core.Path.{_≡_, refl, sym, ap, subst, _∙_}
 use mathlib.Core.List.{List, [], _∷_, _++_, append-assoc, append-nil}
-use Prim.Native.Nat.{ℕ, zero, suc, _+_, _-_, _≤_, _<_}
-use native.Mathlib.Numerals.{add-one}
+use Prim.Native.Nat.{ℕ, suc, _-_, _≤_, _<_}
 use native.Mathlib.Omega.{arith}
-use lib.ListN.{length, getD, take, drop, set, replicate, length-take, length-replicate, drop-of-length-le}
-use lib.Seq.{take-all, take-at, drop-at, take-suc-set, drop-cons}
+use lib.ListN.{length, take, drop, replicate, length-take, length-replicate, drop-of-length-le}
+use lib.Seq.{take-all, take-at, drop-at}
+use Rattle.lists.proofs.Parts.{take-before-append}
 use Rattle.written_figures.specs.declared.writing.Written.{Written}
 use Rattle.written_figures.specs.Writing.{space, written}
 use Rattle.printed.specs.declared.line.Line.{Line}
@@ -13,14 +13,9 @@ use Rattle.printed.specs.Line.{text-of, fitted, LineIs, After}
 
 -- ---- What has room
 
-taken-twice : (n : ℕ) (a b : List ℕ) → take n (take n a ++ b) ≡ take n (a ++ b)
-taken-twice zero a b = refl
-taken-twice (suc n) [] b = refl
-taken-twice (suc n) (x ∷ a) b = ap (λ rest. x ∷ rest) (taken-twice n a b)
-
 pub fitted-before : (a b : List ℕ) → fitted (fitted a ++ b) ≡ fitted (a ++ b)
 unfolding fitted
-fitted-before a b = taken-twice 512 a b
+fitted-before a b = take-before-append 512 a b
 
 pub fitted-whole : (a : List ℕ) → length a ≤ 512 → fitted a ≡ a
 unfolding fitted
@@ -74,14 +69,6 @@ number-after {line} {r} {w} {text} is room after = rw (figure-text {text = text}
 -- ---- Byte by byte
 
 module _ (bytes : List ℕ) (size : length bytes ≡ 512) (text : List ℕ) where
-  pub byte-after : (n at : ℕ) → n < 512 → at < length text
-      → take (n + 1) (set bytes n (getD text at 0)) ++ drop (at + 1) text ≡ take n bytes ++ drop at text
-  byte-after n at h within =
-      rw (add-one n, add-one at)
-      (ap (λ front. front ++ drop (suc at) text) (take-suc-set bytes n (getD text at 0) (omega arith))
-      ∙ append-assoc (take n bytes) (getD text at 0 ∷ []) (drop (suc at) text)
-      ∙ ap (λ rest. take n bytes ++ rest) (sym (drop-cons text at 0 within)))
-
   pub text-all-after : (n at : ℕ) {all : List ℕ} → length text ≤ at → take n bytes ++ drop at text ≡ all → take n bytes ≡ fitted all
   text-all-after n at ended e =
       let is = sym (append-nil (take n bytes)) ∙ ap (λ rest. take n bytes ++ rest) (sym (drop-of-length-le text ended)) ∙ e in

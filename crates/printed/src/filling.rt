@@ -1,14 +1,12 @@
 // A template with numbers in its places.
-ghost use mathlib.Core.Path.{_≡_};
 ghost use mathlib.Core.List.{[], _∷_};
-ghost use lib.IntN.{pos};
-ghost use lib.ListN.{getD};
 ghost use Rattle.printed.specs.Line.{LineIs, After};
 ghost use Rattle.printed.specs.Filling as meaning;
 use crate::line::Line;
 use crate::line::empty;
 use crate::line::with_byte;
 use crate::line::with_number;
+use lists::number_at;
 
 // A template with the numbers, in their order, in the places that '@' holds. A place without a number holds 0.
 pub fn filled(template: &[u8], numbers: &[i64]) -> Line
@@ -36,12 +34,6 @@ fn with_next(line: Line, byte: u8, number: i64) -> Line
         return with_number(line, number);
     }
     with_byte(line, byte)
-}
-
-fn number_at(numbers: &[i64], at: usize) -> i64
-    ensures { λ r. ⌜ r ≡ getD (now (numbers .entry)) at (pos 0) ⌝ }
-{
-    if at < numbers.len() { numbers[at] } else { 0 }
 }
 
 // ---- As many numbers as a sentence has

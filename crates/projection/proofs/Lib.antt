@@ -1,4 +1,2 @@
--- Laws that serve several functions, from below.
-pub mod Zeros
-pub mod PreparedYears
+-- The laws of a projected year.
 pub mod Years

@@ -20,14 +20,14 @@ use Rattle.method.specs.Tests.{figure-in-range}
 use Rattle.method.specs.Questions.{figures-in-range}
 use Rattle.method.proofs.QuestionFacts.{FiguresInRange, figures-in-range-true}
 use Rattle.method.proofs.Projection.{next-nonneg}
-use Rattle.share.specs.Share.{greatest-size}
+use Rattle.prepared_ratios.specs.Ratio.{greatest-size}
 use Rattle.share.specs.Share as answer
 use Rattle.share.specs.declared.Share.the-variants as variants
 use Rattle.share.specs.declared.millionths.Millionths.{Millionths}
 use Rattle.share.proofs.Answers.{rounded-is, rounded-size, too-large-is}
-use Rattle.projection.specs.declared.year.Movement as code
-use Rattle.projection.specs.declared.year.ProjectedYear.{ProjectedYear}
-use Rattle.projection.specs.declared.year.ProjectedYear.the-variants.{Within, TooLarge}
+use Rattle.projection.specs.declared.Movement as code
+use Rattle.projection.specs.declared.ProjectedYear.{ProjectedYear}
+use Rattle.projection.specs.declared.ProjectedYear.the-variants.{Within, TooLarge}
 use Rattle.projection.specs.Year.{ProjectedYearInput, year-or-too-large, movement-of}
 
 -- ---- The answer

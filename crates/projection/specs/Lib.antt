@@ -1,3 +1,2 @@
--- What the functions of this crate ask and answer.
-pub mod Prepared
+-- What the function of this crate asks and answers.
 pub mod Year

@@ -7,9 +7,9 @@ use Rattle.method.specs.Limits.{greatest-figure}
 use Rattle.method.specs.Outstandings.{Sums}
 use Rattle.method.specs.ProjectedYear as meaning
 use Rattle.method.specs.Questions.{figures-in-range}
-use Rattle.projection.specs.declared.year.Movement.{Movement}
-use Rattle.projection.specs.declared.year.ProjectedYear.{ProjectedYear}
-use Rattle.projection.specs.declared.year.ProjectedYear.the-variants.{Within, TooLarge}
+use Rattle.projection.specs.declared.Movement.{Movement}
+use Rattle.projection.specs.declared.ProjectedYear.{ProjectedYear}
+use Rattle.projection.specs.declared.ProjectedYear.the-variants.{Within, TooLarge}
 
 -- the sums of a year as questions 1 to 8 leave them, with an outstanding within the limit of question 9
 pub record ProjectedYearInput (outstanding : ℤ) (s : Sums) : Type 0 where

@@ -1,10 +1,9 @@
 -- Question 6: a row's outstandings are those of document 01, and the question asked row by row is document 01's.
-use mathlib.Core.Path.{_≡_, refl, sym, ap, ap₂, _∙_}
+use mathlib.Core.Path.{_≡_, refl, sym, ap, _∙_}
 use mathlib.Core.List.{List}
 use Prim.Native.Nat.{ℕ, zero, suc, _+_, _-_, _≤_, _<_}
-use native.Mathlib.Numerals.{add-one}
 use native.Mathlib.Omega.{arith}
-use lib.IntN.{ℤ, _+ℤ_, _-ℤ_}
+use lib.IntN.{ℤ}
 use lib.ListN.{length}
 use Rattle.method.specs.Triangle.{Triangle, amounts-length, entry}
 use Rattle.method.specs.Outstandings.{R}
@@ -16,7 +15,6 @@ use Rattle.method.proofs.Rows.{part-length}
 use Rattle.cells.specs.Cells.{row-part}
 use Rattle.cells.proofs.CellTests.{part-entry}
 use Rattle.outstandings.specs.Observed.{row-outstanding, year-of-row, row-of-outstandings, outstandings-of-year, all-outstandings}
-use Rattle.outstandings.proofs.ObservedRows.{outstandings-of-row}
 use Rattle.questions.specs.Inputs.{counted}
 
 module _ (n cut : ℕ) (payments adjustments weights openings : List ℤ) (paid : length payments ≡ amounts-length n)
@@ -28,17 +26,13 @@ module _ (n cut : ℕ) (payments adjustments weights openings : List ℤ) (paid 
   unfolding R row-outstanding
   R-of-row r zero l = refl
   R-of-row r (suc k) l =
-      ap₂ (λ (x y : ℤ). R t (suc r) k -ℤ x +ℤ y) (sym (part-entry n r payments paid k (omega arith))) (sym (part-entry n r adjustments adjusted k (omega arith)))
-      ∙ ap (λ (o : ℤ). o -ℤ entry (row-part n r payments) (suc k) +ℤ entry (row-part n r adjustments) (suc k)) (R-of-row r k (omega arith))
+      rw (R-of-row r k (omega arith), part-entry n r payments paid k (omega arith), part-entry n r adjustments adjusted k (omega arith))
 
   row-of-question-6 : (r : ℕ) → r < n → outstandings-of-year n cut payments adjustments openings (suc r) ≡ each-in-row n 6 (λ i k. outstanding-in-range cut i k (R t i k)) (suc r)
-  unfolding row-of-outstandings each-in-row year-of-row
-  row-of-question-6 r l =
-      ap (outstandings-of-year n cut payments adjustments openings) (sym (add-one r))
-      ∙ outstandings-of-row n cut payments adjustments openings r
-      ∙ ap (λ (i : ℕ). row-of-outstandings cut i (entry openings (suc r)) (row-part n r payments) (row-part n r adjustments)) (add-one r)
-      ∙ ap (λ (x : ℕ). first-to x row) lengths
-      ∙ first-same (n + 1 - suc r) row (λ k. ask (outstanding-in-range cut (suc r) k (R t (suc r) k)) 6 (at (suc r) k)) same
+  unfolding outstandings-of-year row-of-outstandings each-in-row year-of-row
+  row-of-question-6 r l = let this-row : suc r - 1 ≡ r = omega arith in rw this-row
+      (ap (λ (x : ℕ). first-to x row) lengths
+      ∙ first-same (n + 1 - suc r) row (λ k. ask (outstanding-in-range cut (suc r) k (R t (suc r) k)) 6 (at (suc r) k)) same)
     where
       row : ℕ → Verdict
       row = year-of-row cut (suc r) (entry openings (suc r)) (row-part n r payments) (row-part n r adjustments)

@@ -1,15 +1,15 @@
--- The arguments of a call as a triangle.
-use mathlib.Core.Path.{_≡_}
+-- The arguments of a call as a triangle, its lengths, and questions of it that go together.
 use mathlib.Core.Bool.{Bool}
 use mathlib.Core.List.{List}
-use Prim.Native.Nat.{ℕ, _≤_, _<_}
+use Prim.Native.Nat.{ℕ}
 use lib.IntN.{ℤ, pos}
 use lib.ListN.{length}
-use Rattle.method.specs.Limits.{most-accident-years}
-use Rattle.method.specs.Triangle.{Triangle, amounts-length, weights-length, openings-length}
-use Rattle.method.specs.Questions.{input-lengths-right, lengths-right}
-use Rattle.questions.specs.declared.inputs.AnswerLists.{AnswerLists}
-use Rattle.questions.specs.declared.inputs.AnswerLists.the-variants.{NotGiven, OfLengths}
+use Rattle.method.specs.Triangle.{Triangle}
+use Rattle.method.specs.Verdicts.{Verdict, _then_}
+use Rattle.method.specs.Questions.{input-lengths-right, lengths-right, question-5, question-6, question-7}
+use Rattle.questions.specs.declared.lengths.AnswerLists.{AnswerLists}
+use Rattle.questions.specs.declared.lengths.AnswerLists.the-variants.{NotGiven, FutureAndReserves}
+use Rattle.questions.specs.declared.lengths.ListLengths.{ListLengths}
 
 abbrev pub triangle-of : ℤ → ℤ → List ℤ → List ℤ → List ℤ → List ℤ → Triangle
 triangle-of years cut payments adjustments weights openings = record {
@@ -25,18 +25,20 @@ triangle-of years cut payments adjustments weights openings = record {
 abbrev pub counted : ℕ → ℕ → List ℤ → List ℤ → List ℤ → List ℤ → Triangle
 counted n cut = triangle-of (pos n) (pos cut)
 
--- the answer to question 3
+-- document 01's answer to question 3
 abbrev pub lists-right : Triangle → AnswerLists → Bool
 lists-right t NotGiven = input-lengths-right t
-lists-right t (OfLengths future reserves) = lengths-right t future reserves
+lists-right t (FutureAndReserves future reserves) = lengths-right t future reserves
 
--- what questions 1 to 3 leave
-pub record ListsMeasured (n cut : ℕ) (payments adjustments weights openings : List ℤ) : Type 0 where
-  pub fewest : 2 ≤ n
-  pub most : n ≤ most-accident-years
-  pub cut-least : 1 ≤ cut
-  pub cut-most : cut < n
-  pub payments-length : length payments ≡ amounts-length n
-  pub adjustments-length : length adjustments ≡ amounts-length n
-  pub weights-length-right : length weights ≡ weights-length n
-  pub openings-length-right : length openings ≡ openings-length cut
+-- the lengths that a call on it lends
+abbrev pub lengths-of : Triangle → AnswerLists → ListLengths
+lengths-of t answers = record {
+  payments = length (t .payments);
+  adjustments = length (t .adjustments);
+  weights = length (t .weights);
+  openings = length (t .openings);
+  answers = answers;
+}
+
+abbrev pub questions-5-to-7 : Triangle → Verdict
+questions-5-to-7 t = question-5 t then question-6 t then question-7 t

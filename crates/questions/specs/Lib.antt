@@ -1,2 +1,3 @@
 -- What the contracts of this crate say, in the words of the crate `method`.
+pub mod Lengths
 pub mod Inputs

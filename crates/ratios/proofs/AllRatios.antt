@@ -1,14 +1,14 @@
 -- The ratios of a whole triangle, development year by development year, with the outstandings of the year at hand.
-use mathlib.Core.Path.{_≡_, refl, sym, ap, _∙_}
+use mathlib.Core.Path.{_≡_, refl, sym, ap, subst, _∙_}
 use mathlib.Core.List.{List}
 use Prim.Native.Nat.{ℕ, suc, _+_, _-_, _≤_, _<_}
 use native.Mathlib.Numerals.{add-one}
 use native.Mathlib.Decide.{decLe}
 use native.Mathlib.Omega.{arith}
 use lib.IntN.{ℤ, pos, _+ℤ_, _-ℤ_, _*ℤ_, natAbs}
-use lib.ListN.{length, getD, set, replicate, length-set, length-replicate}
-use lib.Seq.{getD-set-other}
+use lib.ListN.{length, getD, set, replicate, length-replicate}
 use Rattle.integers.proofs.Order.{natAbs-in-range}
+use Rattle.lists.proofs.Places.{blank, FilledTo, none-filled, one-more-filled}
 use Rattle.method.specs.Limits.{greatest-outstanding, most-accident-years, most-ratios}
 use Rattle.method.specs.Triangle.{Triangle, n, S, T, w, entry}
 use Rattle.method.specs.Outstandings.{R, sums}
@@ -19,7 +19,6 @@ use Rattle.method.proofs.Sums.{sum-same}
 use Rattle.method.proofs.SumBounds.{weight-size}
 use Rattle.ratios.specs.declared.Sums.{Sums}
 use Rattle.ratios.specs.Ratios.{sums-of, no-sums, partial-sums, DevelopmentOf, FirstYear, FirstOutstandings, DevelopmentYearInput, MovedOn}
-use Rattle.ratios.proofs.Places.{blank, one-more-place}
 use Rattle.ratios.proofs.DevelopmentYear.{same-sums}
 
 -- ---- What questions 1 to 7 leave, as the code wants it
@@ -62,10 +61,8 @@ module _ (t : Triangle) (ok : Observed t) where
 pub record YearsMade (t : Triangle) (years : List Sums) (outstandings : List ℤ) (k : ℕ) : Type 0 where
   pub first : 1 ≤ k
   pub last : k ≤ n t
-  pub years-long : length years ≡ most-ratios
+  pub places : FilledTo no-sums (λ j s. sums-of s ≡ sums t (j + 1)) (replicate most-ratios no-sums) years (k - 1)
   pub outstandings-long : length outstandings ≡ most-accident-years
-  pub made : (j : ℕ) → j + 1 < k → sums-of (getD years j no-sums) ≡ sums t (j + 1)
-  pub not-yet : (j : ℕ) → k ≤ j + 1 → getD years j no-sums ≡ no-sums
   pub at-hand : (r : ℕ) → r + k ≤ n t → getD outstandings r (pos 0) ≡ R t (suc r) k
   pub behind : (r : ℕ) → n t < r + k → r < n t → getD outstandings r (pos 0) ≡ R t (suc r) (n t - r)
   pub beyond : (r : ℕ) → n t ≤ r → getD outstandings r (pos 0) ≡ pos 0
@@ -77,16 +74,17 @@ module _ (t : Triangle) where
   no-year-made outstandings l f = record {
     first = omega arith;
     last = l;
-    years-long = length-replicate most-ratios no-sums;
+    places = none-filled _;
     outstandings-long = f .long;
-    made = λ j h. absurd (omega arith);
-    not-yet = λ j h. blank most-ratios j no-sums;
     at-hand = λ r h. f .first r (omega arith);
     behind = λ r h m. absurd (omega arith);
     beyond = f .beyond;
   }
 
   module _ (years : List Sums) (outstandings : List ℤ) (k : ℕ) (y : YearsMade t years outstandings k) where
+    years-long : length years ≡ most-ratios
+    years-long = y .places .same-length ∙ length-replicate most-ratios no-sums
+
     -- an outstanding at hand, or the last observed one
     behind : (r : ℕ) → n t ≤ r + k → r < n t → Dec (r + k ≤ n t) → getD outstandings r (pos 0) ≡ R t (suc r) (n t - r)
     behind r h g (yes q) = let e : k ≡ n t - r = omega arith in y .at-hand r q ∙ ap (R t (suc r)) e
@@ -108,25 +106,26 @@ module _ (t : Triangle) where
     one-more-year s next l few e m = record {
       first = omega arith;
       last = omega arith;
-      years-long = length-set years (k - 1) s ∙ y .years-long;
+      places = subst (FilledTo no-sums (λ j s. sums-of s ≡ sums t (j + 1)) (replicate most-ratios no-sums) (set years (k - 1) s)) one-more
+          (one-more-filled (y .places) (omega (arith, years-long)) here);
       outstandings-long = m .long;
-      made = λ j h. one-more-place no-sums (λ j x. sums-of x ≡ sums t (j + 1)) years (k - 1) s
-          (omega (arith, y .years-long)) here (λ i l. y .made i (omega arith)) j (omega (arith, y .first));
-      not-yet = λ j h. getD-set-other years (k - 1) j s no-sums (λ same. omega (arith, same, y .first)) ∙ y .not-yet j (omega arith);
       at-hand = λ r h. rw add-one (m .moved r (omega arith) ∙ ap (λ x. x -ℤ S t (suc r) (suc k) +ℤ T t (suc r) (suc k)) (y .at-hand r (omega arith)));
       behind = λ r h g. m .kept r (omega arith) ∙ behind r (omega arith) g (decLe (r + k) (n t));
       beyond = λ r h. m .kept r (omega arith) ∙ y .beyond r h;
     }
       where
+        one-more : k - 1 + 1 ≡ k + 1 - 1
+        one-more = omega (arith, y .first)
+
         here : sums-of s ≡ sums t (k - 1 + 1)
         here = let year : k ≡ k - 1 + 1 = omega (arith, y .first) in e ∙ sym same-year ∙ ap (sums t) year
 
     pub all-years-made : n t ≤ k → DevelopmentOf t years outstandings
     all-years-made l = record {
-      year = λ j h. y .made j (omega arith);
-      year-beyond = λ j h. y .not-yet j (omega (arith, y .last));
+      year = λ j h. y .places .filled j (omega arith);
+      year-beyond = λ j h. y .places .kept j (omega (arith, y .last)) ∙ blank most-ratios j no-sums;
       outstanding = λ r h. rw add-one (behind r (omega arith) h (decLe (r + k) (n t)));
       outstanding-beyond = y .beyond;
-      ratios-long = y .years-long;
+      ratios-long = years-long;
       outstandings-long = y .outstandings-long;
     }

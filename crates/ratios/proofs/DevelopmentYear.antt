@@ -1,5 +1,5 @@
 -- One development year: the sums grow accident year by accident year, each outstanding moves on, and all of it stays within 64 bits.
-use mathlib.Core.Path.{_≡_, refl, sym, ap, _∙_}
+use mathlib.Core.Path.{_≡_, sym, ap, _∙_}
 use mathlib.Core.Logic.{inl}
 use mathlib.Core.List.{List}
 use Prim.Native.Nat.{ℕ, zero, suc, _+_, _-_, _≤_, _<_}
@@ -7,12 +7,12 @@ use native.Mathlib.Numerals.{add-one}
 use native.Mathlib.Omega.{arith}
 use lib.Dec.{lit<}
 use lib.IntN.{ℤ, pos, _+ℤ_, _-ℤ_, _*ℤ_, natAbs}
-use lib.ListN.{length, getD, set, length-set}
-use lib.Seq.{getD-set-other}
+use lib.ListN.{length, getD, set}
 use mir.Syntax.{w64}
 use mir.Val.{SFits}
 use Rattle.integers.proofs.Order.{natAbs-+ℤ}
 use Rattle.integers.proofs.MachineArithmetic.{fits-natAbs}
+use Rattle.lists.proofs.Places.{FilledTo, none-filled, one-more-filled}
 use Rattle.method.specs.SumLimits.{greatest-term, greatest-sum}
 use Rattle.method.specs.Limits.{greatest-amount, greatest-outstanding, most-accident-years}
 use Rattle.method.specs.Counting.{sum-to}
@@ -22,7 +22,6 @@ use Rattle.method.proofs.Positions.{cells-before-none, cells-before-more, cell-
 use Rattle.method.proofs.Sums.{sum-none, sum-more}
 use Rattle.method.proofs.SumBounds.{term-size, few-terms}
 use Rattle.outstandings.specs.Observed.{Movable}
-use Rattle.ratios.proofs.Places.{one-more-place}
 use Rattle.ratios.specs.Ratios.{partial-sums, MovedOn, DevelopmentYearInput, with-row, Summable, RowAddable}
 
 -- ---- A term and a sum within 64 bits
@@ -61,9 +60,7 @@ pub record Summed (n k : ℕ) (payments adjustments weights before : List ℤ) (
   pub sums-are : s ≡ partial-sums n k payments adjustments weights before r
   pub weight-place : weight-at ≡ cells-before (n - 1) r + (k - 1)
   pub amount-place : amount-at ≡ cells-before n r + k
-  pub long : length after ≡ most-accident-years
-  pub moved : (j : ℕ) → j < r → getD after j (pos 0) ≡ getD before j (pos 0) -ℤ cell (pos 0) n payments (suc j) (suc k) +ℤ cell (pos 0) n adjustments (suc j) (suc k)
-  pub kept : (j : ℕ) → r ≤ j → getD after j (pos 0) ≡ getD before j (pos 0)
+  pub places : FilledTo (pos 0) (λ j o. o ≡ getD before j (pos 0) -ℤ cell (pos 0) n payments (suc j) (suc k) +ℤ cell (pos 0) n adjustments (suc j) (suc k)) before after r
 
 module _ (n k : ℕ) (payments adjustments weights before : List ℤ) (ok : DevelopmentYearInput n k payments adjustments weights before) where
   pub before-first-row : Summed n k payments adjustments weights before (record { P = pos 0; Q = pos 0; D = pos 0 }) before (k - 1) k 0
@@ -73,13 +70,18 @@ module _ (n k : ℕ) (payments adjustments weights before : List ℤ) (ok : Deve
     sums-are = same-sums (sym (sum-none _)) (sym (sum-none _)) (sym (sum-none _));
     weight-place = omega (arith, cells-before-none (n - 1));
     amount-place = omega (arith, cells-before-none n);
-    long = ok .outstandings-length;
-    moved = λ j h. absurd (omega arith);
-    kept = λ j h. refl;
+    places = none-filled before;
   }
 
   module _ (s : Sums) (after : List ℤ) (weight-at amount-at r : ℕ) (w : Summed n k payments adjustments weights before s after weight-at amount-at r) where
+    long : length after ≡ most-accident-years
+    long = w .places .same-length ∙ ok .outstandings-length
+
     module _ (l : r + k < n) where
+      -- the outstanding that moves on next is as it was
+      unmoved : getD after r (pos 0) ≡ getD before r (pos 0)
+      unmoved = w .places .kept r (omega arith)
+
       weight-of : getD weights weight-at (pos 0) ≡ cell (pos 0) (n - 1) weights (suc r) k
       weight-of = cell-of-place (pos 0) (n - 1) weights r k weight-at (ok .first) (w .weight-place)
 
@@ -113,7 +115,7 @@ module _ (n k : ℕ) (payments adjustments weights before : List ℤ) (ok : Deve
       adjustment-small = rw (amount-of adjustments) (ok .adjustment-size r l)
 
       outstanding-small : natAbs (getD after r (pos 0)) ≤ natAbs greatest-outstanding
-      outstanding-small = rw (w .kept r (omega arith)) (ok .outstanding-size r l)
+      outstanding-small = rw unmoved (ok .outstanding-size r l)
 
       pub addable : RowAddable s (getD weights weight-at (pos 0)) (getD payments amount-at (pos 0)) (getD adjustments amount-at (pos 0)) (getD after r (pos 0))
       unfolding partial-sums entry
@@ -132,25 +134,16 @@ module _ (n k : ℕ) (payments adjustments weights before : List ℤ) (ok : Deve
           → Summed n k payments adjustments weights before s′ (set after r next) (weight-at + (n - 1 - r)) (amount-at + (n - r)) (r + 1)
       next-row s′ next e f = record {
         rows = omega arith;
-        sums-are = e ∙ rw (w .sums-are, weight-of, amount-of payments, amount-of adjustments, same-outstanding)
+        sums-are = e ∙ rw (w .sums-are, weight-of, amount-of payments, amount-of adjustments, unmoved ∙ sym (entry-at before r))
             (sym (partial-sums-more n k payments adjustments weights before r));
         weight-place = rw add-one (omega (arith, w .weight-place, cells-before-more (n - 1) r));
         amount-place = rw add-one (omega (arith, w .amount-place, cells-before-more n r));
-        long = length-set after r next ∙ w .long;
-        moved = one-more-place (pos 0) (λ j o. o ≡ getD before j (pos 0) -ℤ cell (pos 0) n payments (suc j) (suc k) +ℤ cell (pos 0) n adjustments (suc j) (suc k)) after r next
-            (omega (arith, w .long, ok .most)) here (w .moved);
-        kept = λ j h. getD-set-other after r j next (pos 0) (λ q. omega arith) ∙ w .kept j (omega arith);
+        places = one-more-filled (w .places) (omega (arith, long, ok .most)) (f ∙ rw (unmoved, amount-of payments, amount-of adjustments));
       }
-        where
-          same-outstanding : getD after r (pos 0) ≡ entry before (suc r)
-          same-outstanding = w .kept r (omega arith) ∙ sym (entry-at before r)
-
-          here : next ≡ getD before r (pos 0) -ℤ cell (pos 0) n payments (suc r) (suc k) +ℤ cell (pos 0) n adjustments (suc r) (suc k)
-          here = f ∙ rw (w .kept r (omega arith), amount-of payments, amount-of adjustments)
 
     pub all-rows : n ≤ r + k → (s ≡ partial-sums n k payments adjustments weights before (n - k)) × MovedOn n k payments adjustments before after
     all-rows l =
         let e : r ≡ n - k = omega (arith, w .rows) in (
           w .sums-are ∙ ap (partial-sums n k payments adjustments weights before) e,
-          record { moved = λ j h. w .moved j (omega arith); kept = λ j h. w .kept j (omega arith); long = w .long },
+          record { moved = λ j h. w .places .filled j (omega arith); kept = λ j h. w .places .kept j (omega arith); long = long },
         )

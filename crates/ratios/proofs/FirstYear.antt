@@ -6,34 +6,29 @@ use Prim.Native.Nat.{ℕ, suc, _+_, _-_, _≤_, _<_}
 use native.Mathlib.Numerals.{add-one}
 use native.Mathlib.Omega.{arith}
 use lib.IntN.{ℤ, pos, _+ℤ_, _-ℤ_, natAbs}
-use lib.ListN.{length, getD, set, replicate, length-set, length-replicate}
-use lib.Seq.{getD-set-other}
+use lib.ListN.{length, getD, set, replicate, length-replicate}
+use Rattle.lists.proofs.Places.{blank, FilledTo, none-filled, one-more-filled}
 use Rattle.method.specs.Limits.{greatest-amount, most-accident-years}
 use Rattle.method.specs.Triangle.{amounts-length, cells-before, cell, entry}
 use Rattle.method.proofs.Positions.{cells-before-none, cells-before-more, cell-of-place, cell-inside}
 use Rattle.outstandings.specs.Observed.{Movable}
 use Rattle.ratios.specs.Ratios.{FirstYear, FirstOutstandings}
-use Rattle.ratios.proofs.Places.{blank, one-more-place}
 
 -- the outstandings of the first r accident years are in their places, and zeros in the others
 pub record Placed (n : ℕ) (payments adjustments openings outstandings : List ℤ) (start r : ℕ) : Type 0 where
   pub rows : r ≤ n
   pub start-is : start ≡ cells-before n r
-  pub long : length outstandings ≡ most-accident-years
-  pub first : (j : ℕ) → j < r → getD outstandings j (pos 0) ≡ entry openings (suc j) -ℤ cell (pos 0) n payments (suc j) 1 +ℤ cell (pos 0) n adjustments (suc j) 1
-  pub beyond : (j : ℕ) → r ≤ j → getD outstandings j (pos 0) ≡ pos 0
+  pub places : FilledTo (pos 0) (λ j o. o ≡ entry openings (suc j) -ℤ cell (pos 0) n payments (suc j) 1 +ℤ cell (pos 0) n adjustments (suc j) 1)
+      (replicate most-accident-years (pos 0)) outstandings r
 
 module _ (n : ℕ) (payments adjustments openings : List ℤ) (ok : FirstYear n payments adjustments openings) where
   pub none-placed : Placed n payments adjustments openings (replicate most-accident-years (pos 0)) 0 0
-  none-placed = record {
-    rows = omega arith;
-    start-is = sym (cells-before-none n);
-    long = length-replicate most-accident-years (pos 0);
-    first = λ j h. absurd (omega arith);
-    beyond = λ j h. blank most-accident-years j (pos 0);
-  }
+  none-placed = record { rows = omega arith; start-is = sym (cells-before-none n); places = none-filled _ }
 
   module _ (outstandings : List ℤ) (start r : ℕ) (p : Placed n payments adjustments openings outstandings start r) where
+    long : length outstandings ≡ most-accident-years
+    long = p .places .same-length ∙ length-replicate most-accident-years (pos 0)
+
     module _ (l : r < n) where
       first-cell : (xs : List ℤ) → getD xs start (pos 0) ≡ cell (pos 0) n xs (suc r) 1
       first-cell xs = cell-of-place (pos 0) n xs r 1 start (omega arith) (omega (arith, p .start-is))
@@ -55,14 +50,12 @@ module _ (n : ℕ) (payments adjustments openings : List ℤ) (ok : FirstYear n 
       one-more-placed next e = record {
         rows = omega arith;
         start-is = rw add-one (omega (arith, p .start-is, cells-before-more n r));
-        long = length-set outstandings r next ∙ p .long;
-        first = one-more-place (pos 0) (λ j o. o ≡ entry openings (suc j) -ℤ cell (pos 0) n payments (suc j) 1 +ℤ cell (pos 0) n adjustments (suc j) 1) outstandings r next
-            (omega (arith, p .long, ok .most)) here (p .first);
-        beyond = λ j h. getD-set-other outstandings r j next (pos 0) (λ same. omega (arith, same)) ∙ p .beyond j (omega arith);
+        places = one-more-filled (p .places) (omega (arith, long, ok .most)) (e ∙ rw (first-cell payments, first-cell adjustments));
       }
-        where
-          here : next ≡ entry openings (suc r) -ℤ cell (pos 0) n payments (suc r) 1 +ℤ cell (pos 0) n adjustments (suc r) 1
-          here = e ∙ rw (first-cell payments, first-cell adjustments)
 
     pub all-placed : n ≤ r → FirstOutstandings n payments adjustments openings outstandings
-    all-placed l = record { first = λ j h. p .first j (omega arith); beyond = λ j h. p .beyond j (omega (arith, p .rows)); long = p .long }
+    all-placed l = record {
+      first = λ j h. p .places .filled j (omega arith);
+      beyond = λ j h. p .places .kept j (omega (arith, p .rows)) ∙ blank most-accident-years j (pos 0);
+      long = long;
+    }

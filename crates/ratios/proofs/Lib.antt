@@ -1,5 +1,4 @@
 -- Laws that serve several functions, from below.
-pub mod Places
 pub mod FirstYear
 pub mod DevelopmentYear
 pub mod AllRatios

@@ -5,10 +5,10 @@ use Prim.Native.Nat.{ℕ, suc, _+_, _-_, _≤_, _<_}
 use native.Mathlib.Numerals.{add-one}
 use native.Mathlib.Omega.{arith}
 use lib.IntN.{ℤ}
-use lib.ListN.{length, take, drop, set, length-set, length-drop}
+use lib.ListN.{length, take, drop, set, length-set}
 use lib.Seq.{append-snoc, drop-drop, take-all, take-suc-set, length-take-le}
+use Rattle.lists.proofs.Parts.{whole-rest, rest-within}
 use Rattle.line_parts.specs.Cells.{first-cell, after-cell}
-use Rattle.text.proofs.Searches.{whole-rest}
 use Rattle.row_text.specs.Rows.{RowNumbers, numbers, wrong, with-number, after-entry, row-read, RowReadAs, OpeningsReadAs}
 use Rattle.row_text.specs.declared.entries.CellFault.{CellFault}
 use Rattle.row_text.specs.declared.entries.Entry.{Entry}
@@ -21,13 +21,13 @@ use Rattle.row_text.specs.declared.rows.RowRead.{RowRead}
 abbrev pub part-from : List ℕ → ℕ → List ℕ
 part-from line start = take (length line - start) (drop start line)
 
-module _ (separator : ℕ) (line : List ℕ) (start : ℕ) (within : start ≤ length line) where
+module _ (separator : ℕ) (line : List ℕ) (start : ℕ) where
   pub cell-here : {cell : List ℕ} → cell ≡ first-cell separator (part-from line start) → cell ≡ first-cell separator (drop start line)
-  cell-here is = is ∙ ap (first-cell separator) (whole-rest line start within)
+  cell-here is = is ∙ ap (first-cell separator) (whole-rest line start)
 
   after-cell-here : (size : ℕ) → drop size (part-from line start) ≡ after-cell separator (part-from line start)
       → drop (start + size) line ≡ after-cell separator (drop start line)
-  after-cell-here size is = sym (drop-drop size start line) ∙ (rw (whole-rest line start within) at is)
+  after-cell-here size is = sym (drop-drop size start line) ∙ (rw (whole-rest line start) at is)
 
 -- ---- Numbers before others
 
@@ -71,7 +71,7 @@ module _ {meaning : RowNumbers} {line : List ℕ} {before after : List ℤ} {sta
   -- ---- One cell more
 
   pub cell-within : {size : ℕ} → size ≤ length (part-from line start) → start + size ≤ length line
-  cell-within h = omega (arith, h, ap length (whole-rest line start (s .start-within)), length-drop start line, s .start-within)
+  cell-within = rest-within line start (s .start-within)
 
   module _ (separator : ℕ) (others : ℕ → ℤ → List ℕ → RowNumbers) {entry : Entry}
       (goes-on : left ≡ after-entry cells entry (λ figure. others (suc cells) figure (after-cell separator (drop start line)))) where
@@ -86,7 +86,7 @@ module _ {meaning : RowNumbers} {line : List ℕ} {before after : List ℤ} {sta
       cells-within = omega (arith, s .same-length);
       same-length = length-set after cells amount ∙ s .same-length;
       together = ap₂ joined (take-suc-set after cells amount more)
-          (ap (others (suc cells) figure) (after-cell-here separator line start (s .start-within) size (passed .1)))
+          (ap (others (suc cells) figure) (after-cell-here separator line start size (passed .1)))
           ∙ joined-number (take cells after) amount (others (suc cells) figure (after-cell separator (drop start line)))
           ∙ ap (joined (take cells after)) (sym (by-case told))
           ∙ s .together;

@@ -5,6 +5,7 @@ use crate::printing::print_amount;
 use crate::printing::print_verdict;
 use crate::printing::print_whether;
 use calls::reserve::reserve;
+use lists::number_at;
 use verdicts::verdict::Verdict;
 
 // Prints the verdict, and the reserves at a place of the reserve list or whether both lists hold zeros throughout.
@@ -63,11 +64,6 @@ fn print_reserves(reserves: &[i64], place: i64) {
     print_amount(b", paid ", number_at(reserves, at));
     print_amount(b", incurred ", number_at(reserves, at + 1));
     print_amount(b", closing ", number_at(reserves, at + 2));
-}
-
-// 0 where the list has ended.
-fn number_at(list: &[i64], at: usize) -> i64 {
-    if at < list.len() { list[at] } else { 0 }
 }
 
 fn all_zeros(list: &[i64]) -> bool {

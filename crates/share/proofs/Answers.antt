@@ -8,10 +8,11 @@ use Rattle.method.specs.Limits.{greatest-figure}
 use Rattle.method.specs.Tests.{from-to, figure-in-range}
 use Rattle.method.proofs.Tests.{Says, differ, says-leb, says-map, says-from-to}
 use Rattle.integers.proofs.Order.{natAbs-≤}
+use Rattle.prepared_ratios.specs.Ratio.{greatest-size}
 use Rattle.share.specs.declared.millionths.Millionths.{Millionths}
 use Rattle.share.specs.declared.Share.{Share}
 use Rattle.share.specs.declared.Share.the-variants.{Rounded, TooLarge}
-use Rattle.share.specs.Share.{greatest-size, share-or-too-large}
+use Rattle.share.specs.Share.{share-or-too-large}
 
 -- ---- From the share to its answer
 

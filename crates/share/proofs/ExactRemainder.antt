@@ -8,7 +8,7 @@ use mir.Syntax.{w64}
 use mir.Val.{Fits, SFits}
 use Rattle.integers.proofs.RingSolver.{con, _:+_, _:-_, _:*_, neg}
 use Rattle.integers.proofs.LinearFacts.{≡-by, ≤ℤ-by, <ℤ-by, fits-by}
-use Rattle.share.proofs.Estimates.{estimate-≤, estimate-<}
+use Rattle.integers.proofs.Estimates.{estimate-≤, estimate-<}
 use Rattle.share.specs.NearestQuotient.{NearestInput, NearestQuotient, RoundedUp}
 
 -- a difference is known by the lower halves of both numbers

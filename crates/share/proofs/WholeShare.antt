@@ -13,11 +13,11 @@ use Rattle.integers.proofs.Order.{natAbs-parts, natAbs-in-range, natAbs-*ℤ, n
 use Rattle.integers.proofs.MachineArithmetic.{fits-natAbs}
 use Rattle.integers.proofs.Rounding as rounding
 use Rattle.method.specs.ProjectedYear.{share}
-use Rattle.share.specs.declared.ratio.Ratio.{Ratio}
+use Rattle.prepared_ratios.specs.declared.Ratio.{Ratio}
+use Rattle.prepared_ratios.specs.Ratio.{greatest-size, greatest-product, part-of}
 use Rattle.share.specs.declared.Nearest.{Nearest}
 use Rattle.share.specs.declared.Share.the-variants.{TooLarge}
-use Rattle.share.specs.Share.{ShareInput, greatest-size, share-or-too-large}
-use Rattle.share.specs.Ratio.{greatest-product, part-of}
+use Rattle.share.specs.Share.{ShareInput, share-or-too-large}
 use Rattle.share.specs.NearestQuotient.{NearestInput, NearestQuotient}
 use Rattle.share.proofs.Answers.{past-limit-too-large}
 

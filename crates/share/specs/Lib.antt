@@ -1,4 +1,3 @@
 -- What the functions of this crate ask and answer.
-pub mod Ratio
 pub mod Share
 pub mod NearestQuotient

@@ -3,8 +3,7 @@ use mathlib.Core.Path.{_≡_}
 use Prim.Native.Nat.{ℕ, _+_, _*_, _≤_, _<_}
 use lib.IntN.{pos, negℤ, _+ℤ_, _*ℤ_}
 use lib.Signed.{_≤ℤ_, _<ℤ_}
-use Rattle.share.specs.Share.{greatest-size}
-use Rattle.share.specs.Ratio.{Exposure, FractionOf}
+use Rattle.prepared_ratios.specs.Ratio.{greatest-size, Exposure, FractionOf}
 use Rattle.share.specs.declared.Nearest.{Nearest}
 
 pub record NearestInput (outstanding remainder fraction exposure : ℕ) : Type 0 where

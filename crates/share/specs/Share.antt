@@ -1,24 +1,20 @@
 -- What a share is asked of, and its answer.
 use Prim.Native.Nat.{ℕ}
 use mathlib.Core.Bool.{Bool, true, false}
-use lib.IntN.{ℤ, pos, natAbs}
+use lib.IntN.{ℤ, pos}
 use lib.Signed.{_≤ℤ_}
 use Rattle.method.specs.Limits.{greatest-figure}
 use Rattle.method.specs.Tests.{figure-in-range}
-use Rattle.share.specs.declared.ratio.Ratio.{Ratio}
+use Rattle.prepared_ratios.specs.declared.Ratio.{Ratio}
+use Rattle.prepared_ratios.specs.Ratio.{Ready}
 use Rattle.share.specs.declared.Share.{Share}
 use Rattle.share.specs.declared.Share.the-variants.{Rounded, TooLarge}
-use Rattle.share.specs.Ratio.{Ready}
 
 -- An outstanding within the limit of question 9, and a ratio to this exposure.
 pub record ShareInput (outstanding : ℤ) (ratio : Ratio) (exposure : ℕ) : Type 0 where
   pub outstanding-nonneg : pos 0 ≤ℤ outstanding
   pub outstanding-most : outstanding ≤ℤ greatest-figure
   pub ready : Ready ratio exposure
-
--- The limit of question 9, as a natural.
-abbrev pub greatest-size : ℕ
-greatest-size = natAbs greatest-figure
 
 abbrev kept : Bool → ℤ → Share
 kept true x = Rounded (record { 0 = x })

@@ -4,18 +4,16 @@ ghost use Prim.Native.Nat.{_≤_, _<_, _*_};
 ghost use lib.IntN.{pos};
 ghost use Rattle.method.specs.SumLimits.{greatest-sum};
 ghost use Rattle.method.specs.ProjectedYear.{share};
+ghost use Rattle.prepared_ratios.specs.Ratio.{part-of};
 ghost use Rattle.share.specs.Share.{ShareInput, share-or-too-large};
-ghost use Rattle.share.specs.Ratio.{part-of};
 ghost use Rattle.share.specs.NearestQuotient.{NearestInput, NearestQuotient, RoundedUp};
 
 pub mod millionths;
-pub mod product;
-pub mod ratio;
 
 use millionths::Millionths;
-use product::high_product;
-use product::low_product;
-use ratio::Ratio;
+use prepared_ratios::Ratio;
+use products::high_product;
+use products::low_product;
 use verdicts::limits::GREATEST_FIGURE;
 use verdicts::limits::from_to;
 

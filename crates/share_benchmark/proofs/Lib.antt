@@ -1,3 +1,2 @@
 -- Laws of the benchmark's calls.
-pub mod InPlace
 pub mod InLimits

@@ -8,7 +8,7 @@ use Rattle.method.specs.Limits.{greatest-figure}
 use Rattle.method.specs.ProjectedYear.{share}
 use Rattle.method.specs.Tests.{from-to}
 use Rattle.share.specs.Share.{share-or-too-large}
-use Rattle.share.specs.declared.ratio.Ratio.{Ratio}
+use Rattle.prepared_ratios.specs.declared.Ratio.{Ratio}
 use Rattle.share.specs.declared.Share.{Share}
 use Rattle.share.specs.declared.Share.the-variants.{Rounded, TooLarge}
 

@@ -1,102 +1,79 @@
 -- The years that lead to a cell: each outstanding from its year's movement, each movement from the outstanding before it.
-use mathlib.Core.Path.{_≡_, sym, ap, ap₂, _∙_, subst}
-use mathlib.Core.Bool.{true≢false}
+use mathlib.Core.Path.{_≡_, sym, ap, _∙_, subst}
+use mathlib.Core.Bool.{true, true≢false}
 use mathlib.Core.List.{List}
-use Prim.Native.Nat.{ℕ, zero, suc, _+_, _-_, _≤_, _<_}
-use native.Mathlib.Numerals.{add-one}
+use Prim.Native.Nat.{ℕ, suc, _+_, _-_, _≤_, _<_}
 use native.Mathlib.Decide.{decLe}
 use native.Mathlib.Omega.{arith}
-use lib.IntN.{ℤ, pos}
-use lib.Signed.{_≤ℤ_}
-use Rattle.integers.proofs.LinearFacts.{integers}
-use Rattle.integers.proofs.Order.{natAbs-≤}
-use Rattle.method.specs.Limits.{greatest-figure}
-use Rattle.method.specs.ProjectedYear as meaning
+use lib.IntN.{ℤ, _*ℤ_}
+use Rattle.method.specs.Limits.{one-unit}
+use Rattle.method.specs.Triangle.{entry}
 use Rattle.method.specs.ProjectedYear.{next-year}
-use Rattle.method.specs.Questions.{figures-in-range}
-use Rattle.method.proofs.Projection.{next-nonneg}
-use Rattle.method.proofs.QuestionFacts.{figures-in-range-true}
-use Rattle.share.specs.Share.{greatest-size}
-use Rattle.ratios.specs.declared.Sums.{Sums}
-use Rattle.projection.specs.declared.year.Movement.{Movement}
-use Rattle.projection.specs.declared.year.ProjectedYear.the-variants.{Within, TooLarge}
+use Rattle.method.specs.RunOff.{Method, O, movement, last-observed, year-before}
+use Rattle.method.specs.Questions.{figures-in-range, question-9-of-year}
+use Rattle.method.proofs.FirstRefusal.{ask-accepted, first-accepted}
+use Rattle.method.proofs.RunOff.{O-observed, O-projected}
+use Rattle.prepared_years.specs.Prepared.{ratios-of}
+use Rattle.projection.specs.declared.Movement.{Movement}
+use Rattle.projection.specs.declared.ProjectedYear.the-variants.{Within, TooLarge}
 use Rattle.projection.specs.Year.{ProjectedYearInput, year-or-too-large, movement-of}
 use Rattle.projection.proofs.Years.{within-is, too-large-year}
-use Rattle.projected_rows.specs.ProjectedRows.{sums-at, outstanding-after, projected-year}
-use Rattle.single_cell.specs.Cells.{CellInput, outstanding-of, movement-of-year}
+use Rattle.run_off.specs.MethodRead.{sums-at, method-read}
+use Rattle.run_off.proofs.ProjectedYears.{InRange, outstanding-in-range}
+use Rattle.single_cell.specs.Cells.{CellYear}
 
-pub later-than : {last year : ℕ} → last ≤ year → (year ≡ last → ⊥) → last < year
-later-than {last} {year} h d = go (decLe (suc last) year)
-  where
-    go : Dec (suc last ≤ year) → last < year
-    go (yes l) = l
-    go (no l) = absurd (d (omega arith))
+module _ {n : ℕ} {years : List (List ℕ)} {outstandings : List ℤ} {i k : ℕ} (c : CellYear n years outstandings i k) where
+  abbrev m : Method
+  m = method-read n (ratios-of years) outstandings
 
--- the j-th projected year leads to the outstanding after j years
-year-leads : (ratios : List Sums) (first : ℕ) (observed : ℤ) (j : ℕ) → outstanding-after ratios first observed (suc j) ≡ projected-year ratios first observed (suc j) .outstanding
-unfolding outstanding-after projected-year
-year-leads ratios first observed j =
-    let e : j ≡ suc j - 1 = omega arith in
-    ap (λ (x : ℕ). next-year (outstanding-after ratios first observed x) (sums-at ratios (first + x)) .outstanding) e
+  pub last-observed-year : i + k ≡ n + 1 → entry outstandings i *ℤ one-unit ≡ O m i k
+  last-observed-year e = sym (O-observed m i k (omega arith))
 
-module _ {ratios : List Sums} {last : ℕ} {observed : ℤ} {year : ℕ} (c : CellInput ratios last observed year) where
-  pub at-last : year ≡ last → observed ≡ outstanding-of ratios last observed year
-  unfolding outstanding-after
-  at-last e = let z : 0 ≡ year - last = omega arith in ap (outstanding-after ratios (last - 1) observed) z
+  pub later-year : (i + k ≡ n + 1 → ⊥) → n + 1 < i + k
+  later-year d = go (decLe (n + 2) (i + k))
+    where
+      go : Dec (n + 2 ≤ i + k) → n + 1 < i + k
+      go (yes l) = omega arith
+      go (no l) = absurd (d (omega (arith, c .from-last-observed)))
 
-  -- an outstanding on the way, j years after the last observed one, is within the limit of question 9
-  on-the-way : (j : ℕ) → last + j ≤ year → (pos 0 ≤ℤ outstanding-after ratios (last - 1) observed j) × (outstanding-after ratios (last - 1) observed j ≤ℤ greatest-figure)
-  unfolding outstanding-after
-  on-the-way zero h = (c .observed-nonneg, c .observed-most)
-  on-the-way (suc j) h =
-      let right = c .sums-in-range (last - 1 + j) (omega (arith, c .first)) in
-      let small = figures-in-range-true _ (c .within j (omega arith)) .outstanding in
-      let lead = ap (λ (x : ℕ). projected-year ratios (last - 1) observed x .outstanding) (sym (add-one j)) in (
-        next-nonneg _ _ (right .D-positive) (on-the-way j (omega arith) .0) (right .factor-nonneg),
-        subst (λ (x : ℤ). x ≤ℤ greatest-figure) (sym (year-leads ratios (last - 1) observed j ∙ lead))
-            (natAbs-≤ _ greatest-size .0 (omega (arith, integers, small)) .1),
-      )
+  -- the figures of its row
+  passed : (j : ℕ) → 1 ≤ j → j ≤ i - 1 → figures-in-range (movement m i (year-before m i j)) ≡ true
+  unfolding question-9-of-year
+  passed j p q = ask-accepted _ 9 _ (first-accepted (i - 1) _ (c .passed) j p q)
 
-  module _ (later : last < year) where
-    pub before : CellInput ratios last observed (year - 1)
-    before = record {
-      first = c .first;
-      later = omega arith;
-      most = omega (arith, c .most);
-      observed-nonneg = c .observed-nonneg;
-      observed-most = c .observed-most;
-      sums-in-range = λ j h. c .sums-in-range j (omega arith);
-      within = λ j h. c .within j (omega arith);
+  pub in-range : InRange (O m i k)
+  in-range =
+      let j : ℕ = k - last-observed m i in
+      let e : last-observed m i + j ≡ k = omega (arith, c .from-last-observed) in
+      subst (λ (x : ℕ). InRange (O m i x)) e
+      (outstanding-in-range (c .readable) (c .row) j (omega (arith, c .last-year, c .row .last)) (λ a p q. passed a p (omega (arith, c .last-year, c .row .last))))
+
+  module _ (later : n + 1 < i + k) where
+    pub year-before-it : CellYear n years outstandings i (k - 1)
+    year-before-it = record { readable = c .readable; row = c .row; from-last-observed = omega arith; last-year = omega (arith, c .last-year); passed = c .passed }
+
+    pub outstanding-from-movement : O m i k ≡ movement m i (k - 1) .outstanding
+    outstanding-from-movement =
+        let e : suc (k - 1) ≡ k = omega (arith, c .row .last) in
+        ap (O m i) (sym e) ∙ O-projected m i (k - 1) (omega arith)
+
+    pub year-input : InRange (O m i (k - 1)) → ProjectedYearInput (O m i (k - 1)) (sums-at (ratios-of years) (k - 1))
+    year-input r = record {
+      outstanding-nonneg = r .0;
+      outstanding-most = r .1;
+      sums-in-range = c .readable .sums-in-range (k - 1) (omega (arith, c .row .last)) (omega (arith, c .last-year, c .row .last));
     }
 
-    pub from-movement : outstanding-of ratios last observed year ≡ movement-of-year ratios last observed year .outstanding
-    from-movement =
-        let e : year - last ≡ suc (year - 1 - last) = omega arith in
-        subst (λ (x : ℕ). outstanding-after ratios (last - 1) observed x ≡ projected-year ratios (last - 1) observed x .outstanding) (sym e)
-        (year-leads ratios (last - 1) observed (year - 1 - last))
+    -- the year that leads to the cell
+    figures-right : figures-in-range (movement m i (k - 1)) ≡ true
+    figures-right =
+        let e : year-before m i (i + k - (n + 1)) ≡ k - 1 = omega (arith, c .row .last) in
+        subst (λ (x : ℕ). figures-in-range (movement m i x) ≡ true) e (passed (i + k - (n + 1)) (omega arith) (omega (arith, c .last-year)))
 
-    pub movement-is : movement-of-year ratios last observed year ≡ next-year (outstanding-of ratios last observed (year - 1)) (sums-at ratios (year - 2))
-    unfolding projected-year
-    movement-is =
-        let e : year - last - 1 ≡ year - 1 - last = omega arith in
-        let f : last - 1 + (year - last - 1) ≡ year - 2 = omega (arith, c .first) in
-        ap₂ (λ (x y : ℕ). next-year (outstanding-after ratios (last - 1) observed x) (sums-at ratios y)) e f
+    pub never-too-large : TooLarge ≡ year-or-too-large (next-year (O m i (k - 1)) (sums-at (ratios-of years) (k - 1))) → ⊥
+    unfolding movement
+    never-too-large e = true≢false (sym figures-right ∙ too-large-year _ e)
 
-    pub year-input : ProjectedYearInput (outstanding-of ratios last observed (year - 1)) (sums-at ratios (year - 2))
-    year-input = record {
-      outstanding-nonneg = on-the-way (year - 1 - last) (omega arith) .0;
-      outstanding-most = on-the-way (year - 1 - last) (omega arith) .1;
-      sums-in-range = c .sums-in-range (year - 2) (omega (arith, c .first));
-    }
-
-    abbrev next : meaning.Movement
-    next = next-year (outstanding-of ratios last observed (year - 1)) (sums-at ratios (year - 2))
-
-    pub never-too-large : TooLarge ≡ year-or-too-large next → ⊥
-    never-too-large e =
-        let s : year - 1 - last + 1 ≡ year - last = omega arith in
-        true≢false (sym (c .within (year - 1 - last) (omega arith)) ∙ ap (λ (x : ℕ). figures-in-range (projected-year ratios (last - 1) observed x)) s
-        ∙ ap figures-in-range movement-is ∙ too-large-year next e)
-
-    pub answered-movement : {m : Movement} → Within m ≡ year-or-too-large next → m ≡ movement-of (movement-of-year ratios last observed year)
-    answered-movement {m} e = within-is next m e .0 ∙ ap movement-of (sym movement-is)
+    pub movement-answered : {x : Movement} → Within x ≡ year-or-too-large (next-year (O m i (k - 1)) (sums-at (ratios-of years) (k - 1))) → x ≡ movement-of (movement m i (k - 1))
+    unfolding movement
+    movement-answered {x} e = within-is _ x e .0

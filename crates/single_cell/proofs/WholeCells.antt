@@ -1,99 +1,52 @@
 -- The call for a single cell: accepted and refused, its whole answer is the definition's.
-use mathlib.Core.Path.{_≡_, sym, ap, ap₂, _∙_, subst}
+use mathlib.Core.Path.{_≡_, sym, ap, _∙_}
 use mathlib.Core.List.{List}
-use Prim.Native.Nat.{ℕ, zero, suc, _+_, _-_, _≤_, _<_}
+use Prim.Native.Nat.{ℕ, _-_}
 use native.Mathlib.Omega.{arith}
-use lib.IntN.{ℤ, pos, _*ℤ_, natAbs}
-use lib.ListN.{getD}
-use Rattle.method.specs.Limits.{one-unit}
-use Rattle.method.specs.Triangle.{Triangle, n, entry}
+use lib.IntN.{ℤ, natAbs}
+use Rattle.method.specs.Triangle.{Triangle, n}
 use Rattle.method.specs.ProjectedYear.{Movement}
-use Rattle.method.specs.RunOff.{movement, year-before, method}
-use Rattle.method.specs.Verdicts.{Place, Verdict, accepted, refused, first-to}
-use Rattle.method.specs.Questions.{figures-in-range}
+use Rattle.method.specs.RunOff.{movement, method}
+use Rattle.method.specs.AnswerPlaces.{AccidentYear}
+use Rattle.method.specs.Verdicts.{Place, Verdict, accepted, refused}
+use Rattle.method.specs.Questions.{question-9-of-year, question-9}
 use Rattle.method.specs.Answers.{CellAnswer, cell-verdict, cell-figures, single-cell}
 use Rattle.method.specs.Demand1.{Demand-1-of-cell}
 use Rattle.method.specs.Demand3.{CellOfFuture}
 use Rattle.method.proofs.Demands.{demand-1-of-cell-answer, cell-answer-of-future}
-use Rattle.method.proofs.FirstRefusal.{ask-accepted, first-accepted}
+use Rattle.method.proofs.FirstRefusal.{first-accepted}
 use Rattle.method.proofs.QuestionFacts.{UnseenCell}
-use Rattle.method.proofs.Positions.{entry-at}
+use Rattle.method.proofs.SameRows.{same-movement}
 use Rattle.ratios.specs.declared.Sums.{Sums}
 use Rattle.ratios.specs.Ratios.{DevelopmentOf}
-use Rattle.projected_rows.specs.ProjectedRows.{projected-year, row-question, figures-verdict, observed-of, verdict-of-row, RowInput, Projectable}
-use Rattle.projected_rows.proofs.RowLoop.{RowInMillionths, in-millionths}
-use Rattle.projected_rows.proofs.OfTriangle.{year-is}
-use Rattle.single_cell.specs.Cells.{CellInput, cell-movement, CellAccepted}
+use Rattle.prepared_years.specs.Prepared.{YearsPrepared, ratios-of}
+use Rattle.run_off.specs.MethodRead.{method-read, Projectable}
+use Rattle.run_off.proofs.ReadTriangles.{rows-as-in-the-triangle}
+use Rattle.single_cell.specs.Cells.{CellYear}
 use Rattle.single_cell.specs.Answers.{accepted-cell, refused-cell}
-
--- ---- An accepted cell of what was read
-
-module _ {n : ℕ} {ratios : List Sums} {outstandings : List ℤ} {i k : ℕ} (a : CellAccepted n ratios outstandings i k) where
-  observed-at : getD outstandings (i - 1) (pos 0) ≡ entry outstandings i
-  observed-at = go i (a .first)
-    where
-      go : (i : ℕ) → 2 ≤ i → getD outstandings (i - 1) (pos 0) ≡ entry outstandings i
-      go zero h = absurd (omega arith)
-      go (suc r) h = let e : suc r - 1 ≡ r = omega arith in ap (λ (x : ℕ). getD outstandings x (pos 0)) e ∙ sym (entry-at outstandings r)
-
-  pub row-of-cell : RowInput n ratios i (getD outstandings (i - 1) (pos 0))
-  row-of-cell = record {
-    row = record { first = omega (arith, a .first); last = a .last; most = a .readable .ratios-in-range .most; year = a .readable .ratios-in-range .year };
-    observed-nonneg = a .readable .outstanding (i - 1) (omega (arith, a .first, a .last)) .0;
-    observed-most = a .readable .outstanding (i - 1) (omega (arith, a .first, a .last)) .1;
-  }
-
-  pub in-units : getD outstandings (i - 1) (pos 0) *ℤ one-unit ≡ observed-of n ratios outstandings i
-  in-units = ap (λ (x : ℤ). x *ℤ one-unit) observed-at
-
-  pub later-year : n + 1 - i < k
-  later-year = omega (arith, a .unseen)
-
-  pub cell-input : CellInput ratios (n + 1 - i) (observed-of n ratios outstandings i) k
-  unfolding verdict-of-row figures-verdict row-question
-  cell-input =
-      let m : RowInMillionths n ratios i (observed-of n ratios outstandings i) = subst (RowInMillionths n ratios i) in-units (in-millionths row-of-cell) in
-      record {
-        first = omega (arith, a .last);
-        later = omega (arith, a .unseen);
-        most = omega (arith, a .last-year, a .readable .ratios-in-range .most);
-        observed-nonneg = m .observed-nonneg;
-        observed-most = m .observed-most;
-        sums-in-range = λ j h. a .readable .ratios-in-range .year j (omega (arith, a .last-year));
-        within = λ j h.
-            let e : n + 1 - i - 1 ≡ n - i = omega (arith, a .last) in
-            ap (λ (x : ℕ). figures-in-range (projected-year ratios x (observed-of n ratios outstandings i) (j + 1))) e
-            ∙ ask-accepted _ 9 _ (first-accepted (i - 1) (row-question n ratios i (observed-of n ratios outstandings i)) (a .row) (j + 1)
-            (omega arith) (omega (arith, a .last-year, a .first)));
-      }
-
--- the cell's year is one of the i − 1 projected ones
-projected-years : (n i k : ℕ) → n + 1 < i + k → i ≤ n → k ≤ n → k - (n + 1 - i) - 1 < i - 1
-projected-years n i k h l m = omega arith
-
--- its movement is the triangle's
-pub movement-in-triangle : {t : Triangle} {ratios : List Sums} {outstandings : List ℤ} → DevelopmentOf t ratios outstandings → (i k : ℕ)
-    → CellAccepted (n t) ratios outstandings i k → cell-movement (n t) ratios outstandings i k ≡ movement (method t) i (k - 1)
-movement-in-triangle {t} {ratios} {outstandings} d i k a =
-    let j : ℕ = k - (n t + 1 - i) - 1 in
-    let e : n t + 1 - i - 1 ≡ n t - i = omega (arith, a .last) in
-    let f : k - (n t + 1 - i) ≡ suc j = omega (arith, a .unseen) in
-    let g : year-before (method t) i (suc j) ≡ k - 1 = omega (arith, a .unseen, a .last) in
-    ap₂ (λ (x y : ℕ). projected-year ratios x (observed-of (n t) ratios outstandings i) y) e f
-    ∙ year-is d i (omega (arith, a .first)) (a .last) j (projected-years (n t) i k (a .unseen) (a .last) (a .last-year)) ∙ ap (movement (method t) i) g
 
 -- ---- The cell of a call
 
-pub cell-accepted : {n : ℕ} {ratios : List Sums} {outstandings : List ℤ} {i k : ℤ} → Projectable n ratios outstandings → UnseenCell n i k
-    → first-to n (verdict-of-row n ratios outstandings) ≡ accepted → CellAccepted n ratios outstandings (natAbs i) (natAbs k)
-cell-accepted {n} {ratios} {outstandings} {i} p u e = record {
-  readable = p;
-  first = u .first;
-  last = u .last;
-  unseen = u .unseen;
-  last-year = u .last-year;
-  row = first-accepted n (verdict-of-row n ratios outstandings) e (natAbs i) (omega (arith, u .first)) (u .last);
-}
+module _ (t : Triangle) {years : List (List ℕ)} {outstandings : List ℤ} (i k : ℤ) (p : Projectable (n t) years outstandings) (u : UnseenCell (n t) i k)
+    (e : question-9 (method-read (n t) (ratios-of years) outstandings) ≡ accepted) where
+  pub cell-year : CellYear (n t) years outstandings (natAbs i) (natAbs k)
+  unfolding question-9
+  cell-year =
+      let row : AccidentYear (n t) (natAbs i) = record { first = omega (arith, u .first); last = u .last } in
+      record {
+        readable = p;
+        row = row;
+        from-last-observed = omega (arith, u .unseen);
+        last-year = u .last-year;
+        passed = first-accepted (n t) (question-9-of-year (method-read (n t) (ratios-of years) outstandings)) e (natAbs i) (row .first) (row .last);
+      }
+
+  pub movement-as-in-the-triangle : {ratios : List Sums} {before : List (List ℕ)} → DevelopmentOf t ratios outstandings → YearsPrepared (n t) ratios before years
+      → movement (method-read (n t) (ratios-of years) outstandings) (natAbs i) (natAbs k - 1) ≡ movement (method t) (natAbs i) (natAbs k - 1)
+  movement-as-in-the-triangle d prepared =
+      let c = cell-year in
+      same-movement (c .row .first) (c .row .last) (rows-as-in-the-triangle d prepared (natAbs i) (c .row .first) (c .row .last)) (natAbs k - 1)
+      (record { row = c .row .last; after = omega (arith, u .unseen); year = omega (arith, u .unseen, u .last, u .last-year) })
 
 -- ---- The whole answer
 

@@ -1,26 +1,28 @@
 // One unseen cell alone.
 ghost use mathlib.Core.Path.{_≡_};
-ghost use Prim.Native.Nat.{_<_};
-ghost use Rattle.method.specs.Verdicts.{accepted, first-to};
+ghost use Prim.Native.Nat.{_+_, _-_, _<_};
+ghost use Rattle.method.specs.RunOff.{O, movement};
+ghost use Rattle.method.specs.Verdicts.{accepted};
 ghost use Rattle.method.specs.Questions.{question-1, cell-unseen};
 ghost use Rattle.method.specs.Answers.{single-cell};
 ghost use Rattle.method.specs.Demand1.{Demand-1-of-cell};
 ghost use Rattle.method.specs.Demand3.{CellOfFuture};
 ghost use Rattle.verdicts.specs.Verdicts.{verdict-of};
 ghost use Rattle.questions.specs.Inputs.{triangle-of};
-ghost use Rattle.projection.specs.Prepared.{YearsReady, ratios-of};
+ghost use Rattle.prepared_years.specs.Prepared.{ratios-of};
 ghost use Rattle.projection.specs.Year.{movement-of};
-ghost use Rattle.projected_rows.specs.ProjectedRows.{Projectable, verdict-of-row};
-ghost use Rattle.single_cell.specs.Cells.{CellInput, outstanding-of, movement-of-year, CellAccepted, cell-movement};
+ghost use Rattle.run_off.specs.MethodRead.{method-read};
+ghost use Rattle.single_cell.specs.Cells.{CellYear};
 ghost use Rattle.single_cell.specs.Answers.{cell-of, accepted-cell, refused-cell};
-use projected_rows::project_row;
-use projection::prepared::NUMBERS_OF_A_YEAR;
-use projection::prepared::prepared_years;
-use projection::prepared::year_at;
-use projection::year::Movement;
-use projection::year::ProjectedYear;
-use projection::year::next_year;
-use questions::inputs::AnswerLists;
+use prepared_years::NUMBERS_OF_A_YEAR;
+use prepared_years::prepare_years;
+use prepared_years::year_at;
+use projection::Movement;
+use projection::ProjectedYear;
+use projection::next_year;
+use questions::lengths::AnswerLists;
+use run_off::rows::question_9;
+use run_off::state::first_state;
 use share::millionths::Millionths;
 use triangle::reading::read;
 use verdicts::limits::ACCIDENT_YEARS;
@@ -75,9 +77,10 @@ pub fn single_cell<'a>(
     let development = reading.development;
     let n = years as usize;
     let ratios = development.ratios;
-    let prepared = prepared_years(n, ratios);
+    let mut prepared = [[0; NUMBERS_OF_A_YEAR]; DEVELOPMENT_YEARS];
+    prepare_years(n, ratios, &mut prepared);
     let outstandings = development.outstandings;
-    let projected = question_9(n, &prepared, outstandings);
+    let projected = question_9(n, &prepared, &outstandings);
     let Verdict::Accepted = projected else {
         return refused(projected);
     };
@@ -88,7 +91,7 @@ pub fn single_cell<'a>(
     cell_of(
         n,
         &prepared,
-        outstandings,
+        &outstandings,
         accident_year as usize,
         development_year as usize,
     )
@@ -117,48 +120,18 @@ fn cell_unseen(years: i64, accident_year: i64, development_year: i64) -> bool
     }
 }
 
-// ---- Question 9
-
-// The first refusal of question 9, if there is one. Each accident year is projected into a list of its own.
-fn question_9(
-    n: usize,
-    years: &[[u64; NUMBERS_OF_A_YEAR]; DEVELOPMENT_YEARS],
-    outstandings: [i64; ACCIDENT_YEARS],
-) -> Verdict
-    requires { ⌜ YearsReady n (now years) × Projectable n (ratios-of (now years)) outstandings ⌝ }
-    ensures { λ r. ⌜ verdict-of r ≡ first-to n (verdict-of-row n (ratios-of (now (years .entry))) outstandings) ⌝ }
-{
-    let mut figures = [0; FIGURES_OF_A_ROW];
-    let mut r = 0;
-    while r < n {
-        let row = project_row(n, r + 1, years, outstandings[r], &mut figures, 0);
-        let verdict = row.verdict;
-        let Verdict::Accepted = verdict else {
-            return verdict;
-        };
-        r += 1;
-    }
-    Verdict::Accepted
-}
-
-// Three for each development year but the first.
-const FIGURES_OF_A_ROW: usize = 3 * DEVELOPMENT_YEARS;
-
-// ---- The cell
-
 // Cell (i, k) of an accepted triangle.
-fn cell_of(
+fn cell_of<'a>(
     n: usize,
-    years: &[[u64; NUMBERS_OF_A_YEAR]; DEVELOPMENT_YEARS],
-    outstandings: [i64; ACCIDENT_YEARS],
+    years: &'a [[u64; NUMBERS_OF_A_YEAR]; DEVELOPMENT_YEARS],
+    outstandings: &'a [i64; ACCIDENT_YEARS],
     i: usize,
     k: usize,
 ) -> Cell
-    requires { ⌜ YearsReady n (now years) × CellAccepted n (ratios-of (now years)) outstandings i k ⌝ }
-    ensures { λ r. ⌜ cell-of r ≡ accepted-cell (cell-movement n (ratios-of (now (years .entry))) outstandings i k) ⌝ }
+    requires { ⌜ CellYear n (now years) (now outstandings) i k × (n + 1 < i + k) ⌝ }
+    ensures { λ r. ⌜ cell-of r ≡ accepted-cell (movement (method-read n (ratios-of (now (years .entry))) (now (outstandings .entry))) i (k - 1)) ⌝ }
 {
-    let observed = Millionths::from_units(outstandings[i - 1]);
-    let movement = movement(years, n + 1 - i, observed, k);
+    let movement = movement(n, years, outstandings, i, k);
     let payment = movement.payment;
     let adjustment = movement.adjustment;
     let outstanding = movement.outstanding;
@@ -171,35 +144,38 @@ fn cell_of(
 }
 
 // The outstanding of a year is taken from that year's movement, and the movement from the outstanding before it.
-fn outstanding(
-    years: &[[u64; NUMBERS_OF_A_YEAR]; DEVELOPMENT_YEARS],
-    last: usize,
-    observed: Millionths,
-    year: usize,
+fn outstanding<'a>(
+    n: usize,
+    years: &'a [[u64; NUMBERS_OF_A_YEAR]; DEVELOPMENT_YEARS],
+    outstandings: &'a [i64; ACCIDENT_YEARS],
+    i: usize,
+    k: usize,
 ) -> Millionths
-    requires { ⌜ YearsReady year (now years) × CellInput (ratios-of (now years)) last (observed .0) year ⌝ }
-    ensures { λ r. ⌜ r .0 ≡ outstanding-of (ratios-of (now (years .entry))) last (observed .0) year ⌝ }
+    requires { ⌜ CellYear n (now years) (now outstandings) i k ⌝ }
+    ensures { λ r. ⌜ r .0 ≡ O (method-read n (ratios-of (now (years .entry))) (now (outstandings .entry))) i k ⌝ }
 {
-    if year == last {
-        observed
+    if i + k == n + 1 {
+        let first = first_state(i, outstandings);
+        first.outstanding
     } else {
-        let movement = movement(years, last, observed, year);
+        let movement = movement(n, years, outstandings, i, k);
         movement.outstanding
     }
 }
 
-fn movement(
-    years: &[[u64; NUMBERS_OF_A_YEAR]; DEVELOPMENT_YEARS],
-    last: usize,
-    observed: Millionths,
-    year: usize,
+fn movement<'a>(
+    n: usize,
+    years: &'a [[u64; NUMBERS_OF_A_YEAR]; DEVELOPMENT_YEARS],
+    outstandings: &'a [i64; ACCIDENT_YEARS],
+    i: usize,
+    k: usize,
 ) -> Movement
-    requires { ⌜ YearsReady year (now years) × CellInput (ratios-of (now years)) last (observed .0) year × (last < year) ⌝ }
-    ensures { λ r. ⌜ r ≡ movement-of (movement-of-year (ratios-of (now (years .entry))) last (observed .0) year) ⌝ }
+    requires { ⌜ CellYear n (now years) (now outstandings) i k × (n + 1 < i + k) ⌝ }
+    ensures { λ r. ⌜ r ≡ movement-of (movement (method-read n (ratios-of (now (years .entry))) (now (outstandings .entry))) i (k - 1)) ⌝ }
 {
-    let before = outstanding(years, last, observed, year - 1);
-    let projected = next_year(before, year_at(years, year - 2));
-    let ProjectedYear::Within(movement) = projected else {
+    let before = outstanding(n, years, outstandings, i, k - 1);
+    let year = next_year(before, year_at(years, k - 2));
+    let ProjectedYear::Within(movement) = year else {
         return NO_MOVEMENT;
     };
     movement

@@ -5,11 +5,11 @@ use mathlib.Core.List.{List, [], _∷_, map}
 use Prim.Native.Nat.{ℕ, zero, suc, _+_, _-_, _≤_, _<_}
 use native.Mathlib.Omega.{arith}
 use lib.Dec.{eqb}
-use lib.ListN.{length, getD, take, drop, drop-of-length-le, length-drop}
+use lib.ListN.{length, getD, take, drop, drop-of-length-le}
 use lib.Seq.{drop-cons, drop-drop}
+use Rattle.lists.proofs.Parts.{whole-rest, rest-length, rest-within}
 use Rattle.text.specs.Bytes.{line-feed, carriage-return}
 use Rattle.text.specs.Lines.{first-of, others-of, with-byte, line-feed-follows, whole-lines, without-comment, lines, line-of, AfterLine}
-use Rattle.text.proofs.Searches.{whole-rest}
 
 -- ---- Some line
 
@@ -58,21 +58,20 @@ pub record LineAt (text : List ℕ) (start : ℕ) (line : List ℕ) (next : ℕ)
 
 -- What the first line of the rest of a text tells.
 module _ (text : List ℕ) (start : ℕ) (line : List ℕ) (is : line ≡ first-of (lines (take (length text - start) (drop start text)))) where
-  pub first-of-rest : start ≤ length text → line ≡ first-of (lines (drop start text))
-  first-of-rest within = is ∙ ap (λ rest. first-of (lines rest)) (whole-rest text start within)
+  pub first-of-rest : line ≡ first-of (lines (drop start text))
+  first-of-rest = is ∙ ap (λ rest. first-of (lines rest)) (whole-rest text start)
 
   module _ (more : start < length text) where
     pub line-and-others : lines (drop start text) ≡ line ∷ others-of (lines (drop start text))
-    line-and-others = lines-from text start more ∙ ap (λ first. first ∷ others-of (lines (drop start text))) (sym (first-of-rest (omega arith)))
+    line-and-others = lines-from text start more ∙ ap (λ first. first ∷ others-of (lines (drop start text))) (sym first-of-rest)
 
     pub line-read : (size : ℕ) → AfterLine (take (length text - start) (drop start text)) size → LineAt text start line (start + size)
     line-read size after =
-        let rest : AfterLine (drop start text) size = rw (whole-rest text start (omega arith)) at after in
-        let left = length-drop start text in
+        let rest : AfterLine (drop start text) size = rw (whole-rest text start) at after in
         record {
           parts = line-and-others ∙ ap (λ others. line ∷ others) (sym (ap lines (sym (drop-drop size start text)) ∙ rest .others));
-          within = omega (arith, rest .within);
-          further = omega (arith, rest .further (omega arith));
+          within = rest-within text start (omega arith) (after .within);
+          further = omega (arith, after .further (omega (arith, rest-length text start)));
         }
 
 -- ---- A line by its number
@@ -93,13 +92,12 @@ line-of-others number all more =
     go before (line ∷ others) = refl
 
 -- how the search for a line goes on after so many bytes more
-module _ (text : List ℕ) (start left size : ℕ) (within : start ≤ length text)
-    (after : AfterLine (take (length text - start) (drop start text)) size) where
+module _ (text : List ℕ) (start left size : ℕ) (after : AfterLine (take (length text - start) (drop start text)) size) where
   rest-after : AfterLine (drop start text) size
-  rest-after = rw (whole-rest text start within) at after
+  rest-after = rw (whole-rest text start) at after
 
-  pub passed-within : start + size ≤ length text
-  passed-within = omega (arith, rest-after .within, length-drop start text)
+  pub passed-within : start ≤ length text → start + size ≤ length text
+  passed-within within = rest-within text start within (after .within)
 
   pub line-passed : 1 < left → line-of (left - 1) (lines (drop (start + size) text)) ≡ line-of left (lines (drop start text))
   line-passed more =

@@ -3,17 +3,14 @@ use mathlib.Core.Path.{_≡_, refl, sym, ap, _∙_}
 use mathlib.Core.Bool.{Bool, true, false, cond}
 use mathlib.Core.List.{List, [], _∷_}
 use Prim.Native.Nat.{ℕ, suc, _+_, _-_, _≤_, _<_}
-use native.Mathlib.Nat.{sub-zero}
+use native.Mathlib.Nat.{sub-zero, add-sub-cancel-left}
 use native.Mathlib.Numerals.{add-one}
 use native.Mathlib.Omega.{arith}
-use lib.ListN.{length, getD, take, drop, drop-of-length-le, length-drop}
-use lib.Seq.{drop-cons, drop-drop, take-all}
+use lib.ListN.{length, getD, take, drop, drop-of-length-le}
+use lib.Seq.{drop-cons, drop-drop}
+use Rattle.lists.proofs.Parts.{whole-rest, rest-within}
 use Rattle.text.specs.Search.{is-sought, before, from}
 use Rattle.text.specs.declared.search.Sought.{Sought}
-
--- the part that begins at a place and goes on to the end
-pub whole-rest : (text : List ℕ) (start : ℕ) → start ≤ length text → take (length text - start) (drop start text) ≡ drop start text
-whole-rest text start within = take-all (length text - start) (drop start text) (omega (arith, length-drop start text))
 
 module _ (sought : Sought) where
   pub before-within : (text : List ℕ) → length (before sought text) ≤ length text
@@ -78,18 +75,15 @@ module _ (sought : Sought) where
 
   -- ---- What a search of the rest of a text tells
 
-  module _ (text : List ℕ) (start found : ℕ) (within : start ≤ length text)
-      (is : found ≡ length (before sought (take (length text - start) (drop start text)))) where
+  module _ (text : List ℕ) (start found : ℕ) (is : found ≡ length (before sought (take (length text - start) (drop start text)))) where
     is-rest : found ≡ length (before sought (drop start text))
-    is-rest = is ∙ ap (λ rest. length (before sought rest)) (whole-rest text start within)
+    is-rest = is ∙ ap (λ rest. length (before sought rest)) (whole-rest text start)
 
-    pub found-within-rest : start + found ≤ length text
-    found-within-rest = omega (arith, is-rest, before-within (drop start text), length-drop start text)
+    pub found-within-rest : start ≤ length text → start + found ≤ length text
+    found-within-rest within = rest-within text start within (omega (arith, is, before-within (take (length text - start) (drop start text))))
 
     pub part-before-found-in-rest : take (start + found - start) (drop start text) ≡ before sought (drop start text)
-    part-before-found-in-rest =
-        let amount : start + found - start ≡ found = omega arith in
-        ap (λ n. take n (drop start text)) (amount ∙ is-rest) ∙ take-before (drop start text)
+    part-before-found-in-rest = ap (λ n. take n (drop start text)) (add-sub-cancel-left start found ∙ is-rest) ∙ take-before (drop start text)
 
     pub from-found-in-rest : drop (start + found) text ≡ from sought (drop start text)
     from-found-in-rest = sym (drop-drop found start text) ∙ from-found (drop start text) found is-rest

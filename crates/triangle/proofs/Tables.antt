@@ -1,29 +1,19 @@
 -- What is read of a triangle, place by place, is the definition's list of values.
-use mathlib.Core.Path.{_≡_, refl, sym, ap, _∙_}
-use Prim.Native.Nat.{ℕ, zero, suc, _+_, _≤_, _<_}
+use mathlib.Core.Path.{_≡_, ap, _∙_}
+use Prim.Native.Nat.{ℕ, _+_, _≤_}
 use native.Mathlib.Decide.{decLe}
 use native.Mathlib.Omega.{arith}
 use borrow.Author.Tests.{le-leb, lt-leb}
 use lib.IntN.{pos}
-use lib.ListN.{length, getD, List·getD-eq-default}
-use lib.Seq.{ext-getD}
+use lib.ListN.{getD}
+use Rattle.lists.specs.Values.{values}
+use Rattle.lists.proofs.Values.{values-length, list-of-values, table-holds}
 use Rattle.method.specs.Limits.{most-accident-years, most-ratios}
 use Rattle.method.specs.Triangle.{Triangle, n}
 use Rattle.method.specs.Verdicts.{accepted}
 use Rattle.ratios.specs.declared.Development.{Development}
 use Rattle.ratios.specs.Ratios.{sums-of, no-sums, DevelopmentOf}
-use Rattle.triangle.specs.Reading.{values, as-sums, ratios-at, outstanding-at, development}
-
-values-length : {A : Type 0} (m : ℕ) (f : ℕ → A) → length (values m f) ≡ m
-unfolding values
-values-length zero f = refl
-values-length (suc m) f = ap suc (values-length m (λ j. f (suc j)))
-
-pub values-hold : {A : Type 0} (m j : ℕ) (f : ℕ → A) (d : A) → j < m → getD (values m f) j d ≡ f j
-unfolding values
-values-hold zero j f d h = absurd (omega arith)
-values-hold (suc m) zero f d h = refl
-values-hold (suc m) (suc j) f d h = values-hold m j (λ i. f (suc i)) d (omega arith)
+use Rattle.triangle.specs.Reading.{as-sums, ratios-at, outstanding-at, development}
 
 module _ (t : Triangle) (d : Development) (r : DevelopmentOf t (d .ratios) (d .outstandings)) where
   ratio : (j : ℕ) → getD (d .ratios) j no-sums ≡ ratios-at t j
@@ -45,23 +35,13 @@ module _ (t : Triangle) (d : Development) (r : DevelopmentOf t (d .ratios) (d .o
   pub read-is : d ≡ development t accepted
   unfolding development
   read-is = same (d .ratios) (d .outstandings)
-      (ext-getD no-sums (d .ratios) _ (r .ratios-long ∙ sym (values-length _ (ratios-at t)))
-      (λ j h. ratio j ∙ sym (values-hold _ j (ratios-at t) no-sums (omega (arith, r .ratios-long)))))
-      (ext-getD (pos 0) (d .outstandings) _ (r .outstandings-long ∙ sym (values-length _ (outstanding-at t)))
-      (λ j h. outstanding j ∙ sym (values-hold _ j (outstanding-at t) (pos 0) (omega (arith, r .outstandings-long)))))
+      (list-of-values (d .ratios) most-ratios (ratios-at t) no-sums (r .ratios-long) (λ j h. ratio j))
+      (list-of-values (d .outstandings) most-accident-years (outstanding-at t) (pos 0) (r .outstandings-long) (λ j h. outstanding j))
     where
       same : (a : _) (b : _) {x : _} {y : _} → a ≡ x → b ≡ y → _≡_ {A = Development} (record { ratios = a; outstandings = b }) (record { ratios = x; outstandings = y })
       same a b e f = cc
 
 -- ---- The other way round: the definition's lists hold what the triangle shows
-
--- also beyond their end, where the values are those of no place
-table-holds : {A : Type 0} (m j : ℕ) (f : ℕ → A) (d : A) → (m ≤ j → f j ≡ d) → getD (values m f) j d ≡ f j
-table-holds m j f d beyond = go (decLe (suc j) m)
-  where
-    go : Dec (j < m) → getD (values m f) j d ≡ f j
-    go (yes h) = values-hold m j f d h
-    go (no h) = List·getD-eq-default (values m f) d (omega (arith, values-length m f)) ∙ sym (beyond (omega arith))
 
 module _ (t : Triangle) (most : n t ≤ most-accident-years) where
   ratio-beyond : (j : ℕ) → n t ≤ j + 1 → ratios-at t j ≡ no-sums

@@ -1,12 +1,13 @@
 -- What reading a triangle answers.
 use mathlib.Core.Path.{_≡_}
 use mathlib.Core.Bool.{true, false}
-use mathlib.Core.List.{List, [], _∷_}
-use Prim.Native.Nat.{ℕ, zero, suc, _+_, _-_}
+use mathlib.Core.List.{List}
+use Prim.Native.Nat.{ℕ, _+_, _-_}
 use lib.Dec.{leb}
 use lib.IntN.{ℤ, pos}
 use lib.ListN.{getD, replicate}
 use lib.Signed.{ltZ}
+use Rattle.lists.specs.Values.{values}
 use Rattle.method.specs.Limits.{most-accident-years, most-ratios}
 use Rattle.method.specs.Triangle.{Triangle, n}
 use Rattle.method.specs.Outstandings.{R, sums}
@@ -14,17 +15,12 @@ use Rattle.method.specs.Outstandings as meaning
 use Rattle.method.specs.Verdicts.{Verdict, accepted, refused, at, ask, first-to}
 use Rattle.method.specs.Questions.{observed-questions}
 use Rattle.verdicts.specs.Verdicts.{verdict-of}
-use Rattle.questions.specs.declared.inputs.AnswerLists.{AnswerLists}
+use Rattle.questions.specs.declared.lengths.AnswerLists.{AnswerLists}
 use Rattle.questions.specs.Inputs.{lists-right}
 use Rattle.ratios.specs.declared.Development.{Development}
 use Rattle.ratios.specs.declared.Sums.{Sums}
 use Rattle.triangle.specs.declared.reading.Reading.{Reading}
 use Rattle.ratios.specs.Ratios.{no-sums}
-
--- f 0, f 1, …, f (m − 1), as an array of m places holds them
-unfoldable pub values : {A : Type 0} → ℕ → (ℕ → A) → List A
-values zero f = []
-values (suc m) f = f 0 ∷ values m (λ j. f (suc j))
 
 abbrev pub as-sums : meaning.Sums → Sums
 as-sums s = record { payments = s .P; adjustments = s .Q; exposure = s .D }

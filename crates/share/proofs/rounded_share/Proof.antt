@@ -5,10 +5,10 @@ use lib.IntN.{natAbs}
 use Prim.Native.Nat.{_≤_}
 use mir.Syntax.{w64}
 use mir.Facts.{toZ-ofZ, toZ-pos}
+use Rattle.prepared_ratios.proofs.Signs.{unsigned}
+use Rattle.prepared_ratios.proofs.Ratios.{quotient-fits}
 use Rattle.share.specs.Share.{share-or-too-large}
 use Rattle.share.specs.NearestQuotient.{NearestQuotient}
-use Rattle.share.proofs.Signs.{unsigned}
-use Rattle.share.proofs.Ratios.{quotient-fits}
 use Rattle.share.proofs.WholeShare.{outstanding-≤, outstanding-fits, nearest-input, quotient-<, value, value-is, beyond-reach, product-fits, value-fits}
 use Rattle.share.proofs.rounded_share.Statement.{statement}
 use Rattle.share.proofs.rounded_share.Tie as tie

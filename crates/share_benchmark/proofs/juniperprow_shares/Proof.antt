@@ -7,8 +7,8 @@ use lib.Signed.{_≤ℤ_, _<ℤ_}
 use mir.Syntax.{w64}
 use mir.Facts.{toZ-ofZ}
 use Rattle.method.specs.SumLimits.{greatest-sum}
-use Rattle.share.specs.Ratio.{Ready, part-of}
-use Rattle.share.proofs.Exposures.{exposed, exposure-unsigned, exposure-is}
+use Rattle.prepared_ratios.specs.Ratio.{Ready, part-of}
+use Rattle.prepared_ratios.proofs.Exposures.{exposed, exposure-unsigned, exposure-is}
 use Rattle.share_benchmark.specs.Shares.{in-limits, shares-answer, shares-of}
 use Rattle.share_benchmark.proofs.InLimits.{part-size, exposure-positive, exposure-most}
 use Rattle.share_benchmark.proofs.juniperprow_shares.Statement.{statement}

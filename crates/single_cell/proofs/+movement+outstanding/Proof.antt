@@ -2,36 +2,37 @@
 use borrow.Author.Needs.{needs}
 use native.Mathlib.Omega.{arith}
 use mathlib.Core.Path.{_≡_, sym, ap, _∙_}
-use mathlib.Core.List.{[]}
 use Prim.Native.Nat.{ℕ, _+_, _-_, _<_}
-use lib.ListN.{getD}
 use borrow.Fn.Kinds.{In}
 use borrow.Fn.PlainCycle.{Measures, is, falls, and}
-use Rattle.projection.specs.declared.year.Movement.{Movement}
+use Rattle.method.specs.RunOff.{O}
 use Rattle.method.specs.ProjectedYear.{next-year}
-use Rattle.projection.specs.Prepared.{YearReady, year-of, ratios-of}
+use Rattle.ratios.specs.Ratios.{sums-of}
+use Rattle.prepared_years.specs.Prepared.{year-sums, ratios-of}
+use Rattle.projection.specs.declared.Movement.{Movement}
 use Rattle.projection.specs.Year.{year-or-too-large}
-use Rattle.projected_rows.specs.ProjectedRows.{sums-at}
-use Rattle.single_cell.specs.Cells.{outstanding-of}
-use Rattle.projection.proofs.PreparedYears.{sums-at-place, projected-by-place, fewer-ready}
-use Rattle.single_cell.proofs.CellYears.{later-than, at-last, before, from-movement, year-input, never-too-large, answered-movement}
+use Rattle.run_off.specs.declared.state.RowState.{RowState}
+use Rattle.run_off.specs.MethodRead.{sums-at, method-read}
+use Rattle.run_off.proofs.ProjectedYears.{prepared-from}
+use Rattle.single_cell.proofs.CellYears.{last-observed-year, later-year, in-range, year-before-it, outstanding-from-movement, year-input, never-too-large, movement-answered}
 use Rattle.single_cell.proofs.movement.Reads as movement
 use Rattle.single_cell.proofs.movement.Kinds as movement-kinds
 use Rattle.single_cell.proofs.+movement+outstanding.Lts-movement as movement-lts
 use Rattle.single_cell.proofs.outstanding.Reads as outstanding
 use Rattle.single_cell.proofs.outstanding.Kinds as outstanding-kinds
 use Rattle.single_cell.proofs.+movement+outstanding.Lts-outstanding as outstanding-lts
-use Rattle.projection.proofs.prepared.year_at.Reads as year-at-reads
-use Rattle.projection.proofs.year.next_year.Reads as next-year-reads
+use Rattle.prepared_years.proofs.year_at.Reads as year-at-reads
+use Rattle.projection.proofs.next_year.Reads as next-year-reads
+use Rattle.run_off.proofs.state.first_state.Reads as first-state-reads
 use Rattle.single_cell.proofs.+movement+outstanding.{statement}
 use Rattle.single_cell.proofs.+movement+outstanding.Tie.{close}
 
 -- twice the development year, and one more for the outstanding, which is taken from the movement of the same year
 abbrev μ-movement : Measures 1 movement-kinds.ps ℕ
-μ-movement κs a = a .1 .1 .1 .0 + a .1 .1 .1 .0
+μ-movement κs a = a .1 .1 .1 .1 .0 + a .1 .1 .1 .1 .0
 
 abbrev μ-outstanding : Measures 1 outstanding-kinds.ps ℕ
-μ-outstanding κs a = a .1 .1 .1 .0 + a .1 .1 .1 .0 + 1
+μ-outstanding κs a = a .1 .1 .1 .1 .0 + a .1 .1 .1 .1 .0 + 1
 
 -- either function where its measure is t, and where it is below t
 abbrev movement-at : ℕ → In 1 movement-kinds.ps
@@ -54,75 +55,96 @@ abbrev called-by-movement : ℕ → movement-lts.Claims
 called-by-movement t = (outstanding-below t, outstanding.Post, year-at-reads.Asked, year-at-reads.Learnt, next-year-reads.Asked, next-year-reads.Learnt)
 
 abbrev called-by-outstanding : ℕ → outstanding-lts.Claims
-called-by-outstanding t = (movement-below t, movement.Post)
+called-by-outstanding t = (first-state-reads.Asked, first-state-reads.Learnt, movement-below t, movement.Post)
+
+-- ---- The movement
 
 movement-sub-outstanding : (t : ℕ) → movement-lts.Need-sub-outstanding (called-by-movement t) (movement-at t) movement.Post
-movement-sub-outstanding t c = omega (arith, c .pre .1 .2)
+movement-sub-outstanding t c = let (y, later) = c .pre .1 in omega (arith, y .row .last)
 
 movement-outstanding-requires : (t : ℕ) → movement-lts.Need-outstanding-requires (called-by-movement t) (movement-at t) movement.Post
 movement-outstanding-requires t c κs =
-    let p = c .pre .1 in (
-      let m = c .pre .0 in let l = p .2 in search needs,
-      (fewer-ready (p .0) (omega arith), before (p .1) (p .2)),
-    )
+    let (y, later) = c .pre .1 in
+    (let m = c .pre .0 in let l = y .row .last in search needs, year-before-it y later)
 
 movement-sub-year-at : (t : ℕ) → movement-lts.Need-sub-year-at (called-by-movement t) (movement-at t) movement.Post
-movement-sub-year-at t c = omega (arith, c .before .pre .1 .1 .first, c .before .pre .1 .2)
-
--- the year before is ready
-ready : (t : ℕ) (c : movement-lts.Start (called-by-movement t) (movement-at t) movement.Post) → YearReady (year-of (getD (c .args .years .now) (c .args .year - 2) []))
-ready t c = let p = c .pre .1 in p .0 .year (c .args .year - 2) (omega (arith, p .1 .first, p .2))
+movement-sub-year-at t c = let (y, later) = c .before .pre .1 in omega (arith, y .row .last)
 
 movement-year-at-requires : (t : ℕ) → movement-lts.Need-year-at-requires (called-by-movement t) (movement-at t) movement.Post
-movement-year-at-requires t c κs = let p = c .before .pre .1 in (omega (arith, p .1 .most, p .1 .first, p .2), ready t (c .before))
+movement-year-at-requires t c κs =
+    let (y, later) = c .before .pre .1 in
+    let k = c .before .args .k in
+    (omega (arith, y .last-year, y .row .last, y .readable .most), y .readable .ready .year (k - 2) (omega (arith, y .last-year, y .row .last)))
+
+-- the sums of the development year before
+sums-read : (t : ℕ) (c : movement-lts.After-year-at (called-by-movement t) (movement-at t) movement.Post) → let a = c .before .before .args in
+    sums-of (year-sums (c .year-at .result)) ≡ sums-at (ratios-of (a .years .now)) (a .k - 1)
+sums-read t c =
+    let a = c .before .before .args in
+    let (y, later) = c .before .before .pre .1 in
+    ap (λ x. sums-of (year-sums x)) (c .year-at .ensures) ∙ prepared-from (a .years .now) (a .k - 2) (a .k - 1) (omega (arith, y .row .last))
 
 movement-next-year-requires : (t : ℕ) → movement-lts.Need-next-year-requires (called-by-movement t) (movement-at t) movement.Post
 movement-next-year-requires t c κs =
-    let s = c .before .before in
-    let p = s .pre .1 in
-    rw (c .before .outstanding .ensures, c .year-at .ensures) (ready t s, rw (sums-at-place (s .args .years .now) (s .args .year - 2)) at (year-input (p .1) (p .2)))
+    let (y, later) = c .before .before .pre .1 in
+    let k = c .before .before .args .k in (
+      rw (c .year-at .ensures) (y .readable .ready .year (k - 2) (omega (arith, y .last-year, y .row .last))),
+      rw (c .before .outstanding .ensures, sums-read t c) (year-input y later (in-range (year-before-it y later))),
+    )
 
-movement-enum-known-projected : (t : ℕ) → movement-lts.Need-enum-known-projected (called-by-movement t) (movement-at t) movement.Post
-movement-enum-known-projected t c = search needs
+movement-enum-known-year : (t : ℕ) → movement-lts.Need-enum-known-year (called-by-movement t) (movement-at t) movement.Post
+movement-enum-known-year t c = search needs
 
 movement-enum-told : (t : ℕ) → movement-lts.Need-enum-told (called-by-movement t) (movement-at t) movement.Post
 movement-enum-told t c = search needs
 
--- the year, by the sums that it was prepared from
-year-projected : (t : ℕ) (c : movement-lts.After-next-year (called-by-movement t) (movement-at t) movement.Post) → let a = c .before .before .before .args in
+-- the year that was projected
+projected : (t : ℕ) (c : movement-lts.After-next-year (called-by-movement t) (movement-at t) movement.Post) → let a = c .before .before .before .args in
     c .next-year .result
-    ≡ year-or-too-large (next-year (outstanding-of (ratios-of (a .years .now)) (a .last) (a .observed .0) (a .year - 1)) (sums-at (ratios-of (a .years .now)) (a .year - 2)))
-year-projected t c =
-    let a = c .before .before .before .args in
-    (rw (c .before .before .outstanding .ensures, c .before .year-at .ensures) at (c .next-year .ensures))
-    ∙ projected-by-place (λ s. year-or-too-large (next-year (outstanding-of (ratios-of (a .years .now)) (a .last) (a .observed .0) (a .year - 1)) s)) (a .years .now) (a .year - 2)
+    ≡ year-or-too-large (next-year (O (method-read (a .n) (ratios-of (a .years .now)) (a .outstandings .now)) (a .i) (a .k - 1)) (sums-at (ratios-of (a .years .now)) (a .k - 1)))
+projected t c = rw (c .before .before .outstanding .ensures, sums-read t (c .before)) at (c .next-year .ensures)
 
 movement-returns : (t : ℕ) → movement-lts.Need-returns (called-by-movement t) (movement-at t) movement.Post
 movement-returns t c =
     let y = c .before .before in
-    let p = y .before .before .before .pre .1 in
-    absurd (never-too-large (p .1) (p .2) (sym (c .enum-told .given .1) ∙ year-projected t y))
+    let (cell, later) = y .before .before .before .pre .1 in
+    absurd (never-too-large cell later (sym (c .enum-told .given .1) ∙ projected t y))
 
 movement-returns-2 : (t : ℕ) → movement-lts.Need-returns-2 (called-by-movement t) (movement-at t) movement.Post
 movement-returns-2 t c =
     let y = c .before .before .before in
-    let p = y .before .before .before .pre .1 in
-    answered-movement (p .1) (p .2) (sym (c .before .projected .given .1) ∙ year-projected t y)
+    let (cell, later) = y .before .before .before .pre .1 in
+    movement-answered cell later (sym (c .before .year .given .1) ∙ projected t y)
+
+-- ---- The outstanding
+
+outstanding-add-if1 : (t : ℕ) → outstanding-lts.Need-add-if1 (called-by-outstanding t) (outstanding-at t) outstanding.Post
+outstanding-add-if1 t c = let y = c .pre .1 in record { fits = omega (arith, y .row .last, y .last-year, y .readable .most) }
+
+outstanding-add-if1-2 : (t : ℕ) → outstanding-lts.Need-add-if1-2 (called-by-outstanding t) (outstanding-at t) outstanding.Post
+outstanding-add-if1-2 t c = record { fits = omega (arith, c .pre .1 .readable .most) }
+
+outstanding-first-state-requires : (t : ℕ) → outstanding-lts.Need-first-state-requires (called-by-outstanding t) (outstanding-at t) outstanding.Post
+outstanding-first-state-requires t c κs =
+    let y = c .before .pre .1 in
+    let (nonneg, most) = y .readable .outstanding-in-range (c .before .args .i) (y .row .first) (y .row .last) in
+    (y .row .first, omega (arith, y .row .last, y .readable .most), nonneg, most)
 
 outstanding-movement-requires : (t : ℕ) → outstanding-lts.Need-movement-requires (called-by-outstanding t) (outstanding-at t) outstanding.Post
 outstanding-movement-requires t c κs =
-    let p = c .before .pre .1 in
-    let l = later-than (p .1 .later) (c .if1 .left) in
-    (let m = c .before .pre .0 in search needs, (p .0, p .1, l))
+    let y = c .before .pre .1 in
+    (let m = c .before .pre .0 in search needs, (y, later-year y (c .if1 .left)))
 
 outstanding-returns : (t : ℕ) → outstanding-lts.Need-returns (called-by-outstanding t) (outstanding-at t) outstanding.Post
-outstanding-returns t c = at-last (c .before .pre .1 .1) (c .if1 .taken)
+outstanding-returns t c =
+    let e = c .before .before in
+    ap (λ (s : RowState). s .outstanding .0) (c .before .first-state .ensures) ∙ last-observed-year (e .before .pre .1) (e .if1 .taken)
 
 outstanding-returns-2 : (t : ℕ) → outstanding-lts.Need-returns-2 (called-by-outstanding t) (outstanding-at t) outstanding.Post
 outstanding-returns-2 t c =
     let e = c .before .before in
-    let p = e .before .pre .1 .1 in
-    ap (λ (m : Movement). m .outstanding .0) (c .before .movement .ensures) ∙ sym (from-movement p (later-than (p .later) (e .if1 .left)))
+    let y = e .before .pre .1 in
+    ap (λ (m : Movement). m .outstanding .0) (c .before .movement .ensures) ∙ sym (outstanding-from-movement y (later-year y (e .if1 .left)))
 
 pub +movement+outstanding-spec : {M : Type 1} → statement M
 +movement+outstanding-spec =
@@ -133,11 +155,14 @@ pub +movement+outstanding-spec : {M : Type 1} → statement M
     (movement-sub-year-at t)
     (movement-year-at-requires t)
     (movement-next-year-requires t)
-    (movement-enum-known-projected t)
+    (movement-enum-known-year t)
     (movement-enum-told t)
     (movement-returns t)
     (movement-returns-2 t))
     (λ t. outstanding-lts.spec (called-by-outstanding t) (outstanding-at t) outstanding.Post
+    (outstanding-add-if1 t)
+    (outstanding-add-if1-2 t)
+    (outstanding-first-state-requires t)
     (outstanding-movement-requires t)
     (outstanding-returns t)
     (outstanding-returns-2 t))

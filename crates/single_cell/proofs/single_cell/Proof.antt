@@ -1,26 +1,28 @@
 -- Questions 1 to 8, question 9, question 10; a refusal has zeros beside it.
 use borrow.Author.Needs.{needs}
-use mathlib.Core.Path.{_≡_, sym, ap, _∙_}
+use mathlib.Core.Path.{_≡_, refl, sym, ap, _∙_}
+use mathlib.Core.List.{List}
+use Prim.Native.Nat.{ℕ}
 use native.Mathlib.Omega.{arith}
 use lib.IntN.{natAbs}
+use lib.ListN.{replicate}
 use mir.Facts.{toZ-ofZ}
 use Rattle.method.specs.Triangle.{Triangle}
 use Rattle.method.specs.Verdicts.{accepted}
-use Rattle.method.specs.Questions.{questions, question-10, input-lengths-right, cell-unseen}
+use Rattle.method.specs.Questions.{question-9, questions, question-10, input-lengths-right, cell-unseen}
 use Rattle.method.specs.Answers.{cell-verdict}
 use Rattle.method.proofs.FirstRefusal.{ask-accepted, stopped, went-on}
 use Rattle.method.proofs.QuestionFacts.{YearsInRange, UnseenCell, unseen-cell}
 use Rattle.verdicts.specs.Verdicts.{verdict-of}
 use Rattle.verdicts.proofs.Counts.{count-fits}
-use Rattle.questions.specs.declared.inputs.AnswerLists.the-variants.{NotGiven}
+use Rattle.questions.specs.declared.lengths.AnswerLists.the-variants.{NotGiven}
 use Rattle.questions.specs.Inputs.{triangle-of}
 use Rattle.triangle.specs.Reading.{ReadingOf}
-use Rattle.projection.specs.Prepared.{ratios-of}
-use Rattle.projected_rows.specs.ProjectedRows.{Projectable}
-use Rattle.projected_rows.proofs.OfTriangle.{question-9-is}
-use Rattle.projected_rows.proofs.ReadTriangles.{observed, was-read, can-be-projected, with-question-9, question-1-passed}
-use Rattle.single_cell.specs.Cells.{CellAccepted}
-use Rattle.single_cell.proofs.WholeCells.{cell-accepted, movement-in-triangle, refused-whole, accepted-whole, with-demands}
+use Rattle.prepared_years.specs.Prepared.{YearsPrepared, ratios-of}
+use Rattle.run_off.specs.MethodRead.{method-read, Projectable}
+use Rattle.run_off.proofs.ReadTriangles.{observed, was-read, can-be-prepared, can-be-projected, with-question-9, question-1-passed}
+use Rattle.single_cell.specs.Cells.{CellYear}
+use Rattle.single_cell.proofs.WholeCells.{cell-year, movement-as-in-the-triangle, refused-whole, accepted-whole, with-demands}
 use Rattle.single_cell.proofs.single_cell.Statement.{statement}
 use Rattle.single_cell.proofs.single_cell.Tie as tie
 
@@ -35,28 +37,35 @@ reading c = simp (toZ-ofZ (c .before .fits .years), toZ-ofZ (c .before .fits .cu
 readable : (c : tie.After-enum-told) → verdict-of (c .before .before .read .result .verdict) ≡ accepted
 readable c = ap verdict-of (c .enum-told .given .1)
 
--- the ratios that the years were prepared from are those that were read
-abbrev told-of : tie.After-prepared-years → tie.After-enum-told
-told-of c = c .before .before .before
+-- where questions 1 to 8 have accepted, seen from the prepared years
+abbrev told-of : tie.After-prepare-years → tie.After-enum-told
+told-of c = c .before .before .before .before
 
-can-be-projected-by : (c : tie.After-prepared-years) → let r = told-of c .before .before in
-    Projectable (natAbs (r .before .args .years)) (ratios-of (c .prepared-years .result)) (r .read .result .development .outstandings)
-can-be-projected-by c = let r = told-of c .before .before in rw (c .prepared-years .ensures .1) (can-be-projected (reading r) (readable (told-of c)))
+-- the prepared years
+abbrev years-in : tie.After-prepare-years → List (List ℕ)
+years-in c = c .prepare-years .last .1 .1 .0
+
+prepared : (c : tie.After-prepare-years) → let r = told-of c .before .before in
+    YearsPrepared (natAbs (r .before .args .years)) (r .read .result .development .ratios) (replicate 31 (replicate 9 0)) (years-in c)
+prepared c = simp (toZ-ofZ (told-of c .before .before .before .fits .years)) at (c .prepare-years .ensures)
+
+can-be-projected-by : (c : tie.After-prepare-years) → let r = told-of c .before .before in
+    Projectable (natAbs (r .before .args .years)) (years-in c) (r .read .result .development .outstandings)
+can-be-projected-by c = can-be-projected (reading (told-of c .before .before)) (readable (told-of c)) (prepared c)
 
 -- the verdict of questions 1 to 9
-abbrev prepared-of : tie.After-question-9 → tie.After-prepared-years
-prepared-of c = c .before .before .before
+abbrev prepared-of : tie.After-question-9 → tie.After-prepare-years
+prepared-of c = c .before .before .before .before
 
 nine : (c : tie.After-question-9) → let s = told-of (prepared-of c) .before .before .before in
     verdict-of (c .question-9 .result) ≡ questions (triangle s) (input-lengths-right (triangle s))
 nine c =
     let told = told-of (prepared-of c) in
     let r = told .before .before in
-    let e = rw (prepared-of c .prepared-years .ensures .1) at (simp (toZ-ofZ (r .before .fits .years)) at (c .question-9 .ensures)) in
-    with-question-9 (reading r) (readable told) (e ∙ question-9-is (was-read (reading r) (readable told)))
+    with-question-9 (reading r) (readable told) (prepared (prepared-of c)) (simp (toZ-ofZ (r .before .fits .years)) at (c .question-9 .ensures))
 
 -- question 10
-abbrev years-of : tie.After-asked → tie.After-prepared-years
+abbrev years-of : tie.After-asked → tie.After-prepare-years
 years-of c = prepared-of (c .before .before .before .before)
 
 abbrev read-of : tie.After-asked → tie.After-read
@@ -96,13 +105,14 @@ unseen c =
     let a = c .before .before in
     unseen-cell _ _ _ (years-right a) (ask-accepted _ 10 _ (sym (tested a) ∙ ap verdict-of (c .enum-told5 .given .1)))
 
+-- question 9 of what was read
+nine-passed : (c : tie.After-asked) →
+    question-9 (method-read (natAbs (began c .args .years)) (ratios-of (years-in (years-of c))) (read-of c .read .result .development .outstandings)) ≡ accepted
+nine-passed c = sym (simp (toZ-ofZ (began c .fits .years)) at (c .before .before .before .before .question-9 .ensures)) ∙ projectable c
+
 cell-right : (c : tie.After-enum-told5) → let s = began (c .before .before) in let a = c .before .before in
-    CellAccepted (natAbs (s .args .years)) (ratios-of (years-of a .prepared-years .result)) (read-of a .read .result .development .outstandings) (natAbs (s .args .accident-year)) (natAbs (s .args .development-year))
-cell-right c =
-    let a = c .before .before in
-    let q = a .before .before .before .before in
-    cell-accepted (can-be-projected-by (years-of a)) (unseen c)
-    (sym (simp (toZ-ofZ (began a .fits .years)) at (q .question-9 .ensures)) ∙ projectable a)
+    CellYear (natAbs (s .args .years)) (years-in (years-of a)) (read-of a .read .result .development .outstandings) (natAbs (s .args .accident-year)) (natAbs (s .args .development-year))
+cell-right c = let a = c .before .before in cell-year (triangle (began a)) _ _ (can-be-projected-by (years-of a)) (unseen c) (nine-passed a)
 
 read-requires : tie.Need-read-requires
 read-requires c κs = search needs
@@ -132,14 +142,14 @@ cast-n c =
 
 question-9-requires : tie.Need-question-9-requires
 question-9-requires c κs =
-    let p = c .before .before in
+    let p = c .before .before .before in
     let s = told-of p .before .before .before in
-    simp (toZ-ofZ (s .fits .years)) (simp (toZ-ofZ (s .fits .years)) at (p .prepared-years .ensures .0), can-be-projected-by p)
+    simp (toZ-ofZ (s .fits .years)) (can-be-projected-by p)
 
-prepared-years-requires : tie.Need-prepared-years-requires
-prepared-years-requires c κs =
-    let r = c .before .before .before .before in
-    simp (toZ-ofZ (r .before .fits .years)) (can-be-projected (reading r) (readable (c .before .before)) .ratios-in-range)
+prepare-years-requires : tie.Need-prepare-years-requires
+prepare-years-requires c κs =
+    let r = c .before .before .before .before .before in
+    simp (toZ-ofZ (r .before .fits .years)) (can-be-prepared (reading r) (readable (c .before .before .before)), refl)
 
 enum-told-3 : tie.Need-enum-told-3
 enum-told-3 c = search needs
@@ -185,35 +195,39 @@ returns-3 c =
 
 cast-cell-of : tie.Need-cast-cell-of
 cast-cell-of c =
-    let a = c .before .before .before in
+    let told = c .before .before in
+    let a = told .before .before in
     let s = began a in
-    let u = unseen (c .before) in
+    let u = unseen told in
     simp (toZ-ofZ (s .fits .accident-year)) (count-fits (s .args .accident-year) (u .accident-year-counted) (omega (arith, u .last, years-right a .most)))
 
 cast-cell-of-2 : tie.Need-cast-cell-of-2
 cast-cell-of-2 c =
-    let a = c .before .before .before in
+    let told = c .before .before in
+    let a = told .before .before in
     let s = began a in
-    let u = unseen (c .before) in
+    let u = unseen told in
     simp (toZ-ofZ (s .fits .development-year)) (count-fits (s .args .development-year) (u .development-year-counted) (omega (arith, u .last-year, years-right a .most)))
 
 cell-of-requires : tie.Need-cell-of-requires
 cell-of-requires c κs =
-    let a = c .before .before .before in
+    let told = c .before .before in
+    let a = told .before .before in
     let s = began a in
     simp (toZ-ofZ (s .fits .years), toZ-ofZ (s .fits .accident-year), toZ-ofZ (s .fits .development-year))
-    (simp (toZ-ofZ (s .fits .years)) at (years-of a .prepared-years .ensures .0), cell-right (c .before))
+    (cell-right told, omega (arith, unseen told .unseen))
 
 returns-4 : tie.Need-returns-4
 returns-4 c =
-    let told = c .before .before in
+    let told = c .before .before .before in
     let a = told .before .before in
     let s = began a in
     let r = read-of a in
     with-demands (triangle s) _ _
     ((simp (toZ-ofZ (s .fits .years), toZ-ofZ (s .fits .accident-year), toZ-ofZ (s .fits .development-year)) at (c .cell-of .ensures))
     ∙ accepted-whole (triangle s) (s .args .accident-year) (s .args .development-year) (ten a) (ap verdict-of (told .enum-told5 .given .1))
-    (movement-in-triangle {t = triangle s} (rw (years-of a .prepared-years .ensures .1) (was-read (reading r) (readable-of a))) _ _ (cell-right told)))
+    (movement-as-in-the-triangle (triangle s) _ _ (can-be-projected-by (years-of a)) (unseen told) (nine-passed a)
+    (was-read (reading r) (readable-of a)) (prepared (years-of a))))
 
 pub single-cell-spec : {M : Type 1} → statement M
 single-cell-spec =
@@ -225,7 +239,7 @@ single-cell-spec =
     refused-requires
     returns
     cast-n
-    prepared-years-requires
+    prepare-years-requires
     question-9-requires
     enum-told-3
     enum-told-4

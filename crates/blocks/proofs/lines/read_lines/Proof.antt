@@ -9,14 +9,14 @@ use borrow.Author.Needs.{needs}
 use borrow.Rule.Slice.PartMut.{putMid}
 use lib.IntN.{ℤ}
 use lib.ListN.{length, take, drop, length-drop}
-use lib.Seq.{length-take-le, take-all}
+use lib.Seq.{take-all}
+use Rattle.lists.proofs.Parts.{rest-length, PartBack, part-back}
 use Rattle.text.proofs.FirstLines.{first-line-short}
 use Rattle.line_kinds.specs.Kinds.{kind-of, is-heading}
 use Rattle.text.proofs.LinesOfText.{LineAt, first-of-rest, line-and-others, no-lines}
 use Rattle.text.proofs.LinesOfText as next
 use Rattle.blocks.specs.Blocks.{line-in, is-row, rows-after, LineReadAs}
 use Rattle.blocks.proofs.BlocksRead.{BlockSoFar, nothing-read, text-ended, heading-next, fault-next, line-read}
-use Rattle.blocks.proofs.ListParts.{PartBack, part-back}
 use Rattle.blocks.proofs.lines.read_lines.Statement.{statement}
 use Rattle.blocks.proofs.lines.read_lines.Tie as tie
 
@@ -110,7 +110,7 @@ part-length c =
     let t = turn (c .before .before .before) in
     let l = t .loop .list in
     let inv = t .loop .inv in
-    length-take-le (length l - t .loop .count) (drop (t .loop .count) l) (omega (arith, length-drop (t .loop .count) l))
+    rest-length l (t .loop .count)
     ∙ ap (λ n. n - t .loop .count) (inv .same-length)
 
 abbrev heading-asked : tie.After-list Inv-loop μ-loop → tie.After-is-heading Inv-loop μ-loop
@@ -140,7 +140,7 @@ read-line-requires c κs =
     let k = c .before .before .before in
     let t = turn k in
     let inv = t .loop .inv in
-    let is = first-of-rest (text k) (t .loop .start) (content k) (k .before .before .first-line .ensures) (inv .start-within) in
+    let is = first-of-rest (text k) (t .loop .start) (content k) (k .before .before .first-line .ensures) in
     let short = first-line-short (drop (t .loop .start) (text k)) in (
       omega (arith, ap length is, short, length-drop (t .loop .start) (text k), t .before .before .pre .short),
       rw (part-length c) (inv .room),

@@ -4,8 +4,8 @@ use Prim.Native.Nat.{_+_, _-_}
 use native.Mathlib.Omega.{arith}
 use borrow.Author.Needs.{needs}
 use lib.ListN.{length, take, drop}
+use Rattle.lists.proofs.Parts.{part-back}
 use Rattle.blocks.specs.Blocks.{default-row}
-use Rattle.blocks.proofs.ListParts.{part-back}
 use Rattle.blocks.proofs.WeightsFilled.{WeightsFilled, no-row-filled, row-fits, row-back, all-rows-filled, all-counted}
 use Rattle.blocks.proofs.weights.default_weights.Statement.{statement}
 use Rattle.blocks.proofs.weights.default_weights.Tie as tie

@@ -1,22 +1,25 @@
 -- From the left, a weight each turn.
+use mathlib.Core.Path.{_≡_}
 use mathlib.Core.Logic.{⊎-elim}
 use Prim.Native.Nat.{_-_, _<_}
 use native.Mathlib.Omega.{arith}
 use borrow.Author.Needs.{needs}
 use lib.IntN.{pos}
-use lib.ListN.{length}
-use Rattle.blocks.proofs.WeightsFilled.{RowFilled, none-filled, one-more-filled, next-missing, next-known, all-filled}
+use lib.ListN.{length, getD}
+use Rattle.lists.proofs.Places.{FilledTo, none-filled, one-more-filled, all-filled}
+use Rattle.blocks.specs.Blocks.{default-row}
+use Rattle.blocks.proofs.WeightsFilled.{row-length, weight-missing, weight-known}
 use Rattle.blocks.proofs.weights.fill_row.Statement.{statement}
 use Rattle.blocks.proofs.weights.fill_row.Tie as tie
 
 abbrev Inv-loop : tie.InvT-loop
-Inv-loop missing row₀ k₀ row k = RowFilled missing row₀ row k
+Inv-loop missing row₀ k₀ row k = FilledTo (pos 0) (λ place weight. weight ≡ getD (default-row missing (length row₀)) place (pos 0)) row₀ row k
 
 abbrev μ-loop : tie.MeasureT-loop
 μ-loop missing row₀ k₀ row k = length row₀ - k
 
 loop-holds : tie.Need-loop-holds Inv-loop μ-loop
-loop-holds c = none-filled _ _
+loop-holds c = none-filled _
 
 mul-row : tie.Need-mul-row Inv-loop μ-loop
 mul-row c = search needs
@@ -41,15 +44,18 @@ loop-again c =
     let t = c .before .before in
     let inside : t .loop .k < length (t .before .args .row .now) = omega (arith, t .loop .inv .same-length) in
     ⊎-elim
-    (λ w. rw (w .1) (one-more-filled (pos 0) (t .loop .inv) inside (next-missing _ _ _ inside (w .0 .taken))))
-    (λ w. rw (w .1) (one-more-filled (pos 1) (t .loop .inv) inside (next-known _ _ _ inside (w .0 .left))))
+    (λ w. rw (w .1) (one-more-filled (t .loop .inv) (omega arith) (weight-missing _ _ _ inside (w .0 .taken))))
+    (λ w. rw (w .1) (one-more-filled (t .loop .inv) (omega arith) (weight-known _ _ _ inside (w .0 .left))))
     (c .if1 .came)
 
 same-length : tie.Need-same-length Inv-loop μ-loop
 same-length c = c .before .loop .inv .same-length
 
 returns : tie.Need-returns Inv-loop μ-loop
-returns c = all-filled (c .before .loop .inv) (omega (arith, c .before .loop .inv .same-length))
+returns c =
+    let inv = c .before .loop .inv in
+    let a = c .before .before .args in
+    all-filled inv (omega (arith, inv .same-length)) _ (row-length (a .missing) (length (a .row .now))) (λ place weight h e. e)
 
 pub fill-row-spec : {M : Type 1} → statement M
 fill-row-spec =

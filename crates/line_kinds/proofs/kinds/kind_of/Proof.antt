@@ -2,7 +2,7 @@
 use mathlib.Core.Path.{_≡_, sym, ap, _∙_}
 use lib.ListN.{drop}
 use borrow.Author.Needs.{needs}
-use Rattle.text.proofs.Searches.{whole-rest}
+use Rattle.lists.proofs.Parts.{whole-rest}
 use Rattle.line_kinds.specs.Kinds.{begins-heading, heading-of}
 use Rattle.line_kinds.proofs.KindsOfLines.{kind-without-content, content-starts-within, kind-of-heading, kind-of-row}
 use Rattle.line_kinds.proofs.kinds.kind_of.Statement.{statement}
@@ -41,7 +41,7 @@ begins : (c : tie.After-begins-heading) → let found = c .before .before .befor
 begins c =
     let found = c .before .before .before in
     c .begins-heading .ensures
-    ∙ ap begins-heading (whole-rest (found .before .before .args .line .now) (found .find .result) (sub-begins-heading (c .before .before)))
+    ∙ ap begins-heading (whole-rest (found .before .before .args .line .now) (found .find .result))
 
 word-requires : tie.Need-word-requires
 word-requires c κs = search needs

@@ -6,7 +6,7 @@ use native.Mathlib.Omega.{arith}
 use borrow.Author.Needs.{needs}
 use lib.ListN.{length, drop}
 use Rattle.line_parts.specs.Cells.{from-field}
-use Rattle.text.proofs.Searches.{whole-rest}
+use Rattle.lists.proofs.Parts.{whole-rest}
 use Rattle.line_parts.proofs.Fields.{field-passed-within, field-passed, first-field}
 use Rattle.line_parts.proofs.cells.from_field.Statement.{statement}
 use Rattle.line_parts.proofs.cells.from_field.Tie as tie
@@ -43,7 +43,7 @@ passed-within : (c : tie.After-first-cell-length Inv-loop μ-loop) → let turn 
     turn .loop .start + c .first-cell-length .result ≤ length (text turn)
 passed-within c =
     let turn = c .before .before .before in
-    field-passed-within (separator turn) (text turn) (turn .loop .start) (c .first-cell-length .result) (turn .loop .inv .0) (c .first-cell-length .ensures)
+    field-passed-within (separator turn) (text turn) (turn .loop .start) (c .first-cell-length .result) (c .first-cell-length .ensures) (turn .loop .inv .0)
 
 add-start : tie.Need-add-start Inv-loop μ-loop
 add-start c = let h = passed-within c in search needs
@@ -58,7 +58,7 @@ loop-again : tie.Need-loop-again Inv-loop μ-loop
 loop-again c =
     let turn = c .before .before .before in (
       passed-within c,
-      field-passed (separator turn) (text turn) (turn .loop .start) (c .first-cell-length .result) (turn .loop .inv .0) (c .first-cell-length .ensures)
+      field-passed (separator turn) (text turn) (turn .loop .start) (c .first-cell-length .result) (c .first-cell-length .ensures)
           (turn .loop .left) (omega arith) ∙ turn .loop .inv .1,
     )
 
@@ -74,7 +74,7 @@ part-result-end c = search needs
 returns : tie.Need-returns Inv-loop μ-loop
 returns c =
     let turn = c .before .before in
-    whole-rest (text turn) (turn .loop .start) (turn .loop .inv .0)
+    whole-rest (text turn) (turn .loop .start)
     ∙ first-field (separator turn) (turn .loop .left) (drop (turn .loop .start) (text turn)) (omega arith)
     ∙ turn .loop .inv .1
 

@@ -58,7 +58,7 @@ word-end-within : (c : tie.After-find2 Inv-loop μ-loop) → let turn = c .befor
     turn .loop .start + c .find2 .result ≤ length (line turn)
 word-end-within c =
     let turn = c .before .before .before in
-    found-within-rest (WordEnd (separator turn)) (line turn) (turn .loop .start) (c .find2 .result) (turn .loop .inv .0) (c .find2 .ensures)
+    found-within-rest (WordEnd (separator turn)) (line turn) (turn .loop .start) (c .find2 .result) (c .find2 .ensures) (turn .loop .inv .0)
 
 add-start : tie.Need-add-start Inv-loop μ-loop
 add-start c = let h = word-end-within c in search needs
@@ -81,7 +81,7 @@ next-start-within : (c : tie.After-find3 Inv-loop μ-loop) → let turn = c .bef
 next-start-within c =
     let passed = c .before .before in
     let turn = passed .before .before .before in
-    found-within-rest (WordStart (separator turn)) (line turn) (turn .loop .start + passed .find2 .result) (c .find3 .result) (word-end-within passed) (c .find3 .ensures)
+    found-within-rest (WordStart (separator turn)) (line turn) (turn .loop .start + passed .find2 .result) (c .find3 .result) (c .find3 .ensures) (word-end-within passed)
 
 add-start-2 : tie.Need-add-start-2 Inv-loop μ-loop
 add-start-2 c = let h = next-start-within c in search needs
@@ -98,9 +98,9 @@ loop-again c =
     let turn = passed .before .before .before in
     let start = turn .loop .start in
     let rest = drop start (line turn) in
-    let after-word = from-found-in-rest (WordEnd (separator turn)) (line turn) start (passed .find2 .result) (turn .loop .inv .0) (passed .find2 .ensures) in
+    let after-word = from-found-in-rest (WordEnd (separator turn)) (line turn) start (passed .find2 .result) (passed .find2 .ensures) in
     let next = WordStart (separator turn) in
-    let next-found = from-found-in-rest next (line turn) (start + passed .find2 .result) (c .find3 .result) (word-end-within passed) (c .find3 .ensures) in
+    let next-found = from-found-in-rest next (line turn) (start + passed .find2 .result) (c .find3 .result) (c .find3 .ensures) in
     let begins = next-found ∙ ap (from next) after-word in (
       next-start-within c,
       ap (from next) begins ∙ from-from next (from (WordEnd (separator turn)) rest) ∙ sym begins,
@@ -124,7 +124,7 @@ end-within : (c : tie.After-find4 Inv-loop μ-loop) → let turn = c .before .be
     turn .loop .start + c .find4 .result ≤ length (line turn)
 end-within c =
     let turn = c .before .before .before in
-    found-within-rest (WordEnd (separator turn)) (line turn) (turn .loop .start) (c .find4 .result) (turn .loop .inv .0) (c .find4 .ensures)
+    found-within-rest (WordEnd (separator turn)) (line turn) (turn .loop .start) (c .find4 .result) (c .find4 .ensures) (turn .loop .inv .0)
 
 add-end : tie.Need-add-end Inv-loop μ-loop
 add-end c = let h = end-within c in search needs
@@ -142,7 +142,7 @@ returns : tie.Need-returns Inv-loop μ-loop
 returns c =
     let turn = c .before .before .before .before in
     let start = turn .loop .start in
-    part-before-found-in-rest (WordEnd (separator turn)) (line turn) start (c .before .find4 .result) (turn .loop .inv .0) (c .before .find4 .ensures)
+    part-before-found-in-rest (WordEnd (separator turn)) (line turn) start (c .before .find4 .result) (c .before .find4 .ensures)
     ∙ first-word (separator turn) (drop start (line turn)) (turn .loop .inv .1) (turn .loop .left) (omega arith) ∙ turn .loop .inv .2
 
 pub word-spec : {M : Type 1} → statement M

@@ -1,10 +1,10 @@
 -- By whether the first byte that is no space begins a text in double quotes.
 use mathlib.Core.Path.{_∙_}
 use mathlib.Core.List.{List}
-use Prim.Native.Nat.{ℕ, _+_, _-_, _≤_}
-use native.Mathlib.Omega.{arith}
+use Prim.Native.Nat.{ℕ, _+_, _≤_}
 use borrow.Author.Needs.{needs}
-use lib.ListN.{length, drop, length-take, length-drop}
+use lib.ListN.{length}
+use Rattle.lists.proofs.Parts.{rest-within}
 use Rattle.text.specs.declared.search.Sought.the-variants.{NotSpace}
 use Rattle.text.proofs.Searches.{found-within}
 use Rattle.met_text.proofs.QuotedTexts.{met-without-quotes, met-in-quotes}
@@ -20,9 +20,7 @@ start-within c = found-within NotSpace (rest c) (c .find .result) (c .find .ensu
 end-within : (c : tie.After-quoted-length) → let found = c .before .before in found .find .result + c .quoted-length .result ≤ length (rest found)
 end-within c =
     let found = c .before .before in
-    let text = rest found in
-    let start = found .find .result in
-    omega (arith, start-within found, c .quoted-length .ensures .1, length-take (length text - start) (drop start text), length-drop start text)
+    rest-within (rest found) (found .find .result) (start-within found) (c .quoted-length .ensures .1)
 
 find-requires : tie.Need-find-requires
 find-requires c κs = search needs

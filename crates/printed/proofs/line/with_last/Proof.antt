@@ -1,10 +1,8 @@
 -- The last bytes are the rest of the text.
 use borrow.Author.Needs.{needs}
 use mathlib.Core.Path.{ap, _∙_}
-use Prim.Native.Nat.{_-_}
-use native.Mathlib.Omega.{arith}
-use lib.ListN.{length, drop, length-drop}
-use lib.Seq.{take-all}
+use lib.ListN.{drop}
+use Rattle.lists.proofs.Parts.{whole-rest}
 use Rattle.printed.proofs.line.with_last.Statement.{statement}
 use Rattle.printed.proofs.line.with_last.Tie as tie
 
@@ -28,8 +26,7 @@ returns c =
     let start = c .before .before in
     let text = start .before .before .args .text .now in
     let first = start .less .result in
-    let rest = take-all (length text - first) (drop first text) (omega (arith, length-drop first text)) in
-    rw (rest ∙ ap (λ n. drop n text) (start .less .ensures)) at (c .with-text .ensures)
+    rw (whole-rest text first ∙ ap (λ n. drop n text) (start .less .ensures)) at (c .with-text .ensures)
 
 pub with-last-spec : {M : Type 1} → statement M
 with-last-spec =

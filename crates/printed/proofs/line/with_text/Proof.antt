@@ -6,7 +6,8 @@ use native.Mathlib.Omega.{arith}
 use borrow.Author.Needs.{needs}
 use lib.ListN.{take, drop}
 use lib.ListN as lists
-use Rattle.printed.proofs.LineTexts.{byte-after, text-all-after, room-full}
+use Rattle.lists.proofs.Stored.{one-more-copied}
+use Rattle.printed.proofs.LineTexts.{text-all-after, room-full}
 use Rattle.printed.proofs.line.with_text.Statement.{statement}
 use Rattle.printed.proofs.line.with_text.Tie as tie
 
@@ -47,7 +48,7 @@ loop-again c =
     let args = turn .before .before .args in
     let text = args .text .now in (
       search needs,
-      byte-after (turn .loop .bytes) (turn .loop .inv .0) text (turn .loop .length) (turn .loop .at) (omega arith) (omega arith) ∙ turn .loop .inv .1,
+      one-more-copied (turn .loop .bytes) (turn .loop .length) text (turn .loop .at) 0 (omega arith) (omega arith) ∙ turn .loop .inv .1,
     )
 
 returns-2 : tie.Need-returns-2 Inv-loop μ-loop

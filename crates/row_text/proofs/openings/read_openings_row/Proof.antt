@@ -67,12 +67,12 @@ found c = c .before .before .loop .start + c .find .result
 found-within : (c : tie.After-find Inv-loop μ-loop) → found c ≤ length (line (c .before .before))
 found-within c =
     let turn = c .before .before in
-    found-within-rest (NeitherSpaceNor (separator turn)) (line turn) (turn .loop .start) (c .find .result) (turn .loop .inv .start-within) (c .find .ensures)
+    found-within-rest (NeitherSpaceNor (separator turn)) (line turn) (turn .loop .start) (c .find .result) (c .find .ensures) (turn .loop .inv .start-within)
 
 from-there : (c : tie.After-find Inv-loop μ-loop) → let turn = c .before .before in drop (found c) (line turn) ≡ from-content (separator turn) (rest turn)
 from-there c =
     let turn = c .before .before in
-    from-found-in-rest (NeitherSpaceNor (separator turn)) (line turn) (turn .loop .start) (c .find .result) (turn .loop .inv .start-within) (c .find .ensures)
+    from-found-in-rest (NeitherSpaceNor (separator turn)) (line turn) (turn .loop .start) (c .find .result) (c .find .ensures)
 
 something-follows : (c : tie.Else1 Inv-loop μ-loop) → found (c .before) < length (line (c .before .before .before))
 something-follows c = omega (arith, found-within (c .before), c .if1 .left)
@@ -136,7 +136,7 @@ goes-on c =
     let turn = turn-of c in
     let more : turn .loop .cells < room turn = omega (arith, one-fits c, turn .loop .inv .same-length) in
     opening-follows (separator turn) (room turn) (turn .loop .cells) (line turn) (rest turn) (found searched) (from-there searched) (something-follows (c .before .before .before .before)) more
-    (cell-here (separator turn) (line turn) (turn .loop .start) (turn .loop .inv .start-within) (c .before .first-cell .ensures)) (c .entry-in .ensures)
+    (cell-here (separator turn) (line turn) (turn .loop .start) (c .before .first-cell .ensures)) (c .entry-in .ensures)
 
 enum-known-entry : tie.Need-enum-known-entry Inv-loop μ-loop
 enum-known-entry c = search needs

@@ -6,12 +6,12 @@ use native.Mathlib.Nat.{sub-zero}
 use native.Mathlib.Omega.{arith}
 use borrow.Author.Needs.{needs}
 use lib.IntN.{ℤ}
-use lib.ListN.{length, drop, length-drop}
+use lib.ListN.{length, drop}
 use mir.Syntax.{w64}
 use mir.Val.{toZ}
 use Rattle.integers.proofs.MachineArithmetic.{held}
 use Rattle.line_parts.specs.Cells.{after-cell}
-use Rattle.text.proofs.Searches.{whole-rest}
+use Rattle.lists.proofs.Parts.{whole-rest, rest-length}
 use Rattle.row_text.specs.Rows.{RowNumbers, after-entry, row-numbers, entry-read}
 use Rattle.row_text.proofs.CellByCell.{part-from, cell-here, ReadSoFar, nothing-read, cell-within, cell-read, cell-wrong, row-wrong}
 use Rattle.row_text.proofs.NumbersOfRow.{numbers-left, number-follows, row-ended}
@@ -38,7 +38,7 @@ left turn = let args = turn .before .before .args in numbers-left (args .separat
 
 -- the part of the line that is left
 part-is : (turn : tie.At-loop Inv-loop μ-loop) → part-from (line turn) (turn .loop .start) ≡ drop (turn .loop .start) (line turn)
-part-is turn = whole-rest (line turn) (turn .loop .start) (turn .loop .inv .start-within)
+part-is turn = whole-rest (line turn) (turn .loop .start)
 
 few-cells : (turn : tie.At-loop Inv-loop μ-loop) → turn .loop .cells ≤ 32
 few-cells turn = omega (arith, turn .loop .inv .cells-within, turn .before .before .pre .list-short)
@@ -81,7 +81,7 @@ goes-on c =
     let args = turn .before .before .args in
     let start = turn .loop .start in
     number-follows (args .separator) (args .missing) (args .cumulated) (length (args .row .now)) (turn .loop .cells) (toZ w64 (turn .loop .before))
-    (drop start (line turn)) (omega (arith, one-fits c, turn .loop .inv .same-length)) (cell-here (separator turn) (line turn) start (turn .loop .inv .start-within) (c .before .first-cell .ensures))
+    (drop start (line turn)) (omega (arith, one-fits c, turn .loop .inv .same-length)) (cell-here (separator turn) (line turn) start (c .before .first-cell .ensures))
     (c .entry-in .ensures)
 
 enum-known-entry : tie.Need-enum-known-entry Inv-loop μ-loop
@@ -166,7 +166,7 @@ row-end-requires c κs =
     let turn = c .before .before in
     let input = turn .before .before .pre in (
       omega (arith, turn .loop .inv .cells-within, input .list-short),
-      omega (arith, ap length (part-is turn), length-drop (turn .loop .start) (line turn), input .line-short),
+      omega (arith, rest-length (line turn) (turn .loop .start), input .line-short),
     )
 
 same-length-2 : tie.Need-same-length-2 Inv-loop μ-loop

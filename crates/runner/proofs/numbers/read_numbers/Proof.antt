@@ -46,7 +46,7 @@ find-requires c κs = search needs
 end-within : (c : tie.After-find Inv-loop μ-loop) → let turn = c .before .before .before .before in turn .loop .start + c .find .result ≤ length (turn .before .before .args .field .now)
 end-within c =
     let turn = c .before .before .before .before in
-    found-within-rest (Byte space) (turn .before .before .args .field .now) (turn .loop .start) (c .find .result) (omega arith) (c .find .ensures)
+    found-within-rest (Byte space) (turn .before .before .args .field .now) (turn .loop .start) (c .find .result) (c .find .ensures) (omega arith)
 
 add-end : tie.Need-add-end Inv-loop μ-loop
 add-end c = let h = end-within c in search needs

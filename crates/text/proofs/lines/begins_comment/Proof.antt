@@ -6,9 +6,9 @@ use native.Mathlib.Omega.{arith}
 use borrow.Author.Needs.{needs}
 use lib.Dec.{eqb}
 use lib.ListN.{getD}
+use Rattle.lists.proofs.Parts.{whole-rest}
 use Rattle.text.specs.Bytes.{space, number-sign}
 use Rattle.text.specs.Lines.{without-return}
-use Rattle.text.proofs.Searches.{whole-rest}
 use Rattle.text.proofs.Comments.{begins-comment-at, no-comment-at-end}
 use Rattle.text.proofs.lines.begins_comment.Statement.{statement}
 use Rattle.text.proofs.lines.begins_comment.Tie as tie
@@ -43,7 +43,7 @@ without-return-requires c κs = search needs
 returns-2 : tie.Need-returns-2
 returns-2 c =
     let args = c .before .before .before .before .before .before .args in
-    let whole = c .without-return .ensures ∙ ap without-return (whole-rest (args .line .now) (args .at) (omega arith)) in
+    let whole = c .without-return .ensures ∙ ap without-return (whole-rest (args .line .now) (args .at)) in
     ap (λ rest. eqb (getD (args .line .now) (args .at) 0) number-sign && eqb (getD (args .line .now) (args .at + 1) 0) space && rest) whole
     ∙ begins-comment-at (args .line .now) (args .at) (omega arith)
 

@@ -46,8 +46,8 @@ loop-again c =
     let text = turn .before .before .args .text .now in
     let start = turn .loop .start in
     let size = c .first-line-length .result in (
-      passed-within text start (turn .loop .left) size (turn .loop .inv .0) (c .first-line-length .ensures),
-      line-passed text start (turn .loop .left) size (turn .loop .inv .0) (c .first-line-length .ensures) (omega arith) ∙ turn .loop .inv .1,
+      passed-within text start (turn .loop .left) size (c .first-line-length .ensures) (turn .loop .inv .0),
+      line-passed text start (turn .loop .left) size (c .first-line-length .ensures) (omega arith) ∙ turn .loop .inv .1,
     )
 
 sub-first-line : tie.Need-sub-first-line Inv-loop μ-loop
@@ -66,7 +66,7 @@ returns : tie.Need-returns Inv-loop μ-loop
 returns c =
     let turn = c .before .before .before in
     let text = turn .before .before .args .text .now in
-    first-of-rest text (turn .loop .start) _ (c .first-line .ensures) (turn .loop .inv .0)
+    first-of-rest text (turn .loop .start) _ (c .first-line .ensures)
     ∙ line-of-first (turn .loop .left) (lines (drop (turn .loop .start) text)) (omega arith)
     ∙ turn .loop .inv .1
 

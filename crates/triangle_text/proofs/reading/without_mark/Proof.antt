@@ -2,11 +2,11 @@
 use mathlib.Core.Path.{_≡_}
 use mathlib.Core.Bool.{and-false}
 use mathlib.Core.List.{List}
-use Prim.Native.Nat.{ℕ, _-_, _<_}
+use Prim.Native.Nat.{ℕ, _<_}
 use native.Mathlib.Omega.{arith}
 use borrow.Author.Needs.{needs}
-use lib.ListN.{length, drop, length-drop, List·getD-eq-default}
-use lib.Seq.{take-all}
+use lib.ListN.{length, List·getD-eq-default}
+use Rattle.lists.proofs.Parts.{whole-rest}
 use Rattle.triangle_text.specs.Reading.{without-mark}
 use Rattle.triangle_text.proofs.reading.without_mark.Statement.{statement}
 use Rattle.triangle_text.proofs.reading.without_mark.Tie as tie
@@ -40,7 +40,7 @@ returns-2 : tie.Need-returns-2
 unfolding without-mark
 returns-2 c =
     let bytes = c .before .before .before .before .before .before .args .bytes .now in
-    rw (c .before .if2 .taken) (take-all (length bytes - 3) (drop 3 bytes) (omega (arith, length-drop 3 bytes)))
+    rw (c .before .if2 .taken) (whole-rest bytes 3)
 
 returns-3 : tie.Need-returns-3
 unfolding without-mark

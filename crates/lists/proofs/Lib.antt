@@ -1,0 +1,5 @@
+-- Laws of lists. From below: their parts, stores one after another, places filled from the left, lists by their values.
+pub mod Parts
+pub mod Stored
+pub mod Places
+pub mod Values

@@ -1,0 +1,2 @@
+-- Lists by their values.
+pub mod Values

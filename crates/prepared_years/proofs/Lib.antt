@@ -1,0 +1,2 @@
+-- The laws of prepared years.
+pub mod PreparedYears

@@ -1,0 +1,2 @@
+-- The law of a product.
+pub mod Columns

@@ -1,2 +1,0 @@
--- What the contracts of this crate say, in the words of the crate `method`.
-pub mod ProjectedRows

@@ -1,0 +1,112 @@
+-- An accident year as it is projected, year by year: its state, and what is answered and written of it.
+use mathlib.Core.Path.{_≡_}
+use mathlib.Core.List.{List, [], _∷_, _++_}
+use Prim.Native.Nat.{ℕ, zero, suc, _+_, _*_, _-_, _≤_, _<_}
+use lib.IntN.{ℤ, pos, _+ℤ_, _*ℤ_, natAbs}
+use lib.ListN.{getD}
+use lib.Seq.{sets}
+use Rattle.method.specs.Limits.{one-unit, most-accident-years}
+use Rattle.method.specs.Triangle.{entry}
+use Rattle.method.specs.RunOff.{Method, O, last-observed, first-outstanding, figures-to, payments-to, adjustments-to, future-row, reserves-row}
+use Rattle.method.specs.Verdicts.{Verdict, accepted, refused}
+use Rattle.method.specs.Questions.{question-9-of-year}
+use Rattle.share.specs.declared.millionths.Millionths.{Millionths}
+use Rattle.prepared_ratios.specs.Ratio.{greatest-size}
+use Rattle.verdicts.specs.Verdicts.{verdict-of}
+use Rattle.prepared_years.specs.Prepared.{YearReady, year-of, ratios-of}
+use Rattle.projection.specs.declared.Movement.{Movement}
+use Rattle.projection.specs.Year.{ProjectedYearInput}
+use Rattle.run_off.specs.MethodRead.{sums-at}
+use Rattle.run_off.specs.declared.state.RowState.{RowState}
+use Rattle.run_off.specs.declared.rows.ProjectedRow.{ProjectedRow}
+
+-- ---- One year more
+
+-- no year is projected yet, and this outstanding, in whole units, was the last observed one
+abbrev pub state-before : ℤ → RowState
+state-before observed = record {
+  projected = 0;
+  outstanding = record { 0 = observed *ℤ one-unit };
+  paid = record { 0 = pos 0 };
+  incurred = record { 0 = observed *ℤ one-unit };
+  «first_payment» = record { 0 = pos 0 };
+}
+
+-- the payment of the first year: that of the year at hand where none is behind
+abbrev pub first-of : ℕ → Millionths → Millionths → Millionths
+first-of zero payment first = payment
+first-of (suc j) payment first = first
+
+abbrev pub with-year : RowState → Movement → RowState
+with-year s x = record {
+  projected = s .projected + 1;
+  outstanding = x .outstanding;
+  paid = record { 0 = s .paid .0 +ℤ x .payment .0 };
+  incurred = record { 0 = s .incurred .0 +ℤ x .adjustment .0 };
+  «first_payment» = first-of (s .projected) (x .payment) (s .«first_payment»);
+}
+
+-- a sum of some figures within the limit of question 9, and one more of them
+pub record FigureAddable (sum figure : ℤ) : Type 0 where
+  pub sum-size : natAbs sum ≤ most-accident-years * greatest-size
+  pub figure-size : natAbs figure ≤ greatest-size
+
+-- a state and a year that can be added to it
+pub record YearAddable (s : RowState) (x : Movement) : Type 0 where
+  pub projected : s .projected ≤ most-accident-years
+  pub paid : FigureAddable (s .paid .0) (x .payment .0)
+  pub incurred : FigureAddable (s .incurred .0) (x .adjustment .0)
+
+-- the year after the projected ones of accident year i
+pub record YearToProject (n i : ℕ) (years : List (List ℕ)) (s : RowState) : Type 0 where
+  pub last : i ≤ n
+  pub most : n ≤ most-accident-years
+  pub more : s .projected + 1 < i
+  pub ready : YearReady (year-of (getD years (n - i + s .projected) []))
+  pub input : ProjectedYearInput (s .outstanding .0) (sums-at (ratios-of years) (n - i + (s .projected + 1)))
+
+-- what a row answers besides its verdict, and what a refused one does
+abbrev pub figures-answered : ProjectedRow → List ℤ
+figures-answered r = r .paid .0 ∷ r .incurred .0 ∷ r .closing .0 ∷ r .«first_payment» .0 ∷ []
+
+abbrev pub no-figures : List ℤ
+no-figures = pos 0 ∷ pos 0 ∷ pos 0 ∷ pos 0 ∷ []
+
+module _ (m : Method) (i : ℕ) where
+  -- ---- Accident year i after its first j projected years
+
+  unfoldable pub row-state : ℕ → RowState
+  row-state j = record {
+    projected = j;
+    outstanding = record { 0 = O m i (last-observed m i + j) };
+    paid = record { 0 = payments-to m i j };
+    incurred = record { 0 = first-outstanding m i +ℤ adjustments-to m i j };
+    «first_payment» = record { 0 = entry (figures-to m i j) 1 };
+  }
+
+  -- ---- What is answered of accident year i
+
+  -- the payment at i + k = n + 2, which begins its row of the future list; accident year 1 has none and 0 in its place
+  abbrev pub first-payment : ℤ
+  first-payment = entry (future-row m i) 1
+
+  -- its reserves and this payment; zeros where it is refused
+  unfoldable pub row-figures : Verdict → List ℤ
+  row-figures accepted = reserves-row m i ++ first-payment ∷ []
+  row-figures (refused question p) = no-figures
+
+  pub record RowProjected (r : ProjectedRow) : Type 0 where
+    pub verdict-is : verdict-of (r .verdict) ≡ question-9-of-year m i
+    pub figures-are : figures-answered r ≡ row-figures (question-9-of-year m i)
+
+  -- ---- What is written of it
+
+  -- how many of its years: all, or those before the cell (i, k) that is refused
+  unfoldable pub years-written : Verdict → ℕ
+  years-written accepted = i - 1
+  years-written (refused question p) = natAbs (p .development-year) - (last-observed m i + 1)
+
+  -- from a place of a list on
+  pub record RowWritten (start : ℕ) (before : List ℤ) (r : ProjectedRow) (after : List ℤ) : Type 0 where
+    pub answered : RowProjected r
+    pub list-is : after ≡ sets before start (figures-to m i (years-written (question-9-of-year m i)))
