@@ -1,51 +1,46 @@
 -- One row of a block, read into the left of a list.
-use mathlib.Core.Path.{_≡_, refl, ap, _∙_}
-use mathlib.Core.Bool.{Bool}
-use mathlib.Core.List.{List, [], _++_}
+use mathlib.Core.Path.{_≡_, refl, sym, ap, _∙_}
+use mathlib.Core.Bool.{Bool, false}
+use mathlib.Core.List.{List, [], _++_, append-nil}
 use Prim.Native.Nat.{ℕ, suc, _+_, _-_, _≤_, _<_}
+use native.Mathlib.Nat.{zero-add}
 use native.Mathlib.Omega.{arith}
 use borrow.Author.Tests.{lt-ltb, le-ltb}
 use lib.IntN.{ℤ}
-use lib.ListN.{length, length-append}
-use lib.Seq.{take-append-seam}
-use Rattle.row_text.specs.Rows.{RowNumbers, row-numbers, openings-numbers, RowReadAs, OpeningsReadAs}
+use lib.ListN.{length, length-append, length-take}
+use lib.Seq.{take-append-le}
+use Rattle.row_text.specs.Rows.{RowNumbers, row-numbers, openings-numbers, RowReadAs}
 use Rattle.row_text.specs.Rows as row
 use Rattle.row_text.specs.declared.rows.RowRead.{RowRead}
-use Rattle.row_text.specs.declared.openings.OpeningsRead.{OpeningsRead}
-use Rattle.blocks.specs.Blocks.{numbers, at-line, row-in, Room, fault-at, fault-of, BlockReadAs, LineReadAs}
+use Rattle.row_text.specs.declared.rows.RowRead as read
+use Rattle.blocks.specs.Blocks.{numbers, at-line, row-in, Room, read-at, BlockReadAs, LineReadAs}
 use Rattle.blocks.specs.declared.faults.Expected.the-variants.{NoFurtherRow}
 use Rattle.blocks.specs.declared.faults.Fault.the-variants.{Nothing, At}
 use Rattle.blocks.specs.declared.lines.Shape.{Shape}
 use Rattle.blocks.specs.declared.lines.Shape.the-variants.{Triangle, Openings}
-use Rattle.blocks.proofs.BlocksRead.{numbers-injective, fault-read, numbers-read}
+use Rattle.blocks.proofs.BlocksRead.{fault-read, numbers-read}
 use Rattle.blocks.proofs.WeightsFilled.{room-after-row}
 
--- the fault of a row is that of its block
-fault-of-row : (number : ℕ) (meaning : RowNumbers) → fault-at number (row.row-read meaning) ≡ fault-of (at-line number meaning)
-fault-of-row number (row.numbers others) = refl
-fault-of-row number (row.wrong cell fault) = refl
+-- ---- A row, by its numbers or what is wrong with it
 
-numbers-of-row : (number : ℕ) (meaning : RowNumbers) (others : List ℤ) → at-line number meaning ≡ numbers others → meaning ≡ row.numbers others
-numbers-of-row number (row.numbers first) others e = ap row.numbers (numbers-injective e)
-numbers-of-row number (row.wrong cell fault) others e = let z : _≡_ {A = ℕ} 0 1 = cc in absurd (omega arith)
+module _ {others : List ℤ} {r : RowRead} {part : List ℤ} (answer : RowReadAs (row.numbers others) r part) where
+  right-is : r ≡ read.the-variants.Right (length others)
+  right-is = answer .read-is ∙ ap read.the-variants.Right (zero-add (length others))
 
-pub row-read : (number : ℕ) (meaning : RowNumbers) {r : RowRead} {list : List ℤ} (after : List ℤ) → RowReadAs meaning r list
-    → BlockReadAs (at-line number meaning) (record { count = length list; fault = fault-at number r }) (list ++ after)
-row-read number meaning {r} {list} after answer = record {
-  fault-is = ap (fault-at number) (answer .read-is) ∙ fault-of-row number meaning;
-  count-is = λ others e. ap length (answer .numbers-are others (numbers-of-row number meaning others e));
-  numbers-are = λ others e. take-append-seam list after ∙ answer .numbers-are others (numbers-of-row number meaning others e);
-  within = omega (arith, length-append list after);
-}
+  few : length others ≤ length part
+  few = omega (arith, ap length (answer .numbers-are others refl), length-take (length others) part)
 
-pub openings-read : (number : ℕ) (meaning : RowNumbers) {r : OpeningsRead} {list : List ℤ} → OpeningsReadAs meaning r list
-    → BlockReadAs (at-line number meaning) (record { count = r .count; fault = fault-at number (r .read) }) list
-openings-read number meaning answer = record {
-  fault-is = ap (fault-at number) (answer .read-is) ∙ fault-of-row number meaning;
-  count-is = λ others e. answer .count-is others (numbers-of-row number meaning others e);
-  numbers-are = λ others e. answer .numbers-are others (numbers-of-row number meaning others e);
-  within = answer .within;
-}
+-- a row has no more numbers than its part of the list
+count-within : (number : ℕ) (meaning : RowNumbers) {r : RowRead} {part : List ℤ} → RowReadAs meaning r part → read-at number r .count ≤ length part
+count-within number (row.numbers others) answer = rw (right-is answer) (few answer)
+count-within number (row.wrong cell fault) answer = rw (answer .read-is) (omega arith)
+
+pub row-read : (number : ℕ) (meaning : RowNumbers) {r : RowRead} {part : List ℤ} (after : List ℤ) → RowReadAs meaning r part
+    → BlockReadAs (at-line number meaning) (read-at number r) (part ++ after)
+row-read number (row.numbers others) {r} {part} after answer =
+    let numbers-are = take-append-le (length others) part after (few answer) ∙ answer .numbers-are others refl in
+    rw (right-is answer) (numbers-read (part ++ after) (ap numbers (sym numbers-are)) refl (omega (arith, few answer, length-append part after)))
+row-read number (row.wrong cell fault) {r} {part} after answer = rw (answer .read-is) (fault-read (part ++ after) refl refl (omega arith))
 
 -- ---- A row of a triangle
 
@@ -60,21 +55,21 @@ module _ (separator n Y : ℕ) (cumulated : Bool) (number rows : ℕ) (line : Li
   }
 
   pub row-of-triangle : {r : RowRead} {part : List ℤ} (after : List ℤ) → rows < n → Room (Triangle n Y cumulated) rows (length (part ++ after))
-      → RowReadAs (row-numbers separator (Y - suc rows) cumulated (n - rows) line) r part → length part ≡ n - rows
+      → RowReadAs (row-numbers separator (Y - suc rows) cumulated false (n - rows) line) r part → length part ≡ n - rows
       → LineReadAs (Triangle n Y cumulated) (rows + 1) (row-in separator (Triangle n Y cumulated) number rows (length (part ++ after)) line)
-      (record { count = n - rows; fault = fault-at number r }) (part ++ after)
+      (read-at number r) (part ++ after)
   row-of-triangle {r} {part} after h room answer long = record {
-    read = rw (lt-ltb rows n h, ← long) (row-read number (row-numbers separator (Y - suc rows) cumulated (length part) line) {r = r} {list = part} after (rw long answer));
-    room-left = λ e. (room .0, omega (arith, room-after-row h (room .1)));
+    read = rw (lt-ltb rows n h) (row-read number (row-numbers separator (Y - suc rows) cumulated false (n - rows) line) after answer);
+    room-left = λ e. (room .0, omega (arith, room-after-row h (room .1), count-within number _ answer));
   }
 
 -- ---- A row of openings
 
-pub row-of-openings : (separator number rows : ℕ) (line : List ℕ) {r : OpeningsRead} {room : ℕ} (list : List ℤ) → Room Openings rows room → length list ≡ room
-    → OpeningsReadAs (openings-numbers separator room line) r list
-    → LineReadAs Openings (rows + 1) (row-in separator Openings number rows room line) (record { count = r .count; fault = fault-at number (r .read) }) list
-row-of-openings separator number rows line {r} {room} list most same answer = record {
-  read = openings-read number (openings-numbers separator room line) answer;
+pub row-of-openings : (separator number rows : ℕ) (line : List ℕ) {r : RowRead} {room : ℕ} (list : List ℤ) → Room Openings rows room → length list ≡ room
+    → RowReadAs (openings-numbers separator room line) r list
+    → LineReadAs Openings (rows + 1) (row-in separator Openings number rows room line) (read-at number r) list
+row-of-openings separator number rows line list most same answer = record {
+  read = rw (append-nil list) at (row-read number (openings-numbers separator _ line) [] answer);
   room-left = λ e. omega arith;
 }
 

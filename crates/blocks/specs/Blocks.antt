@@ -1,6 +1,6 @@
 -- The numbers under a heading, row after row.
 use mathlib.Core.Path.{_≡_}
-use mathlib.Core.Bool.{Bool, cond}
+use mathlib.Core.Bool.{Bool, false, cond}
 use mathlib.Core.List.{List, [], _∷_, _++_}
 use Prim.Native.Nat.{ℕ, zero, suc, _-_, _≤_}
 use lib.Dec.{ltb}
@@ -48,7 +48,7 @@ at-line number (row.wrong cell fault) = faulty number cell (InCell fault)
 -- and its first Y − i cells, where i + k is at most Y, are missing. Of openings there may be as many as there is still room for.
 abbrev pub row-in : ℕ → Shape → ℕ → ℕ → ℕ → List ℕ → Block
 row-in separator (Triangle n Y cumulated) number rows room line =
-    cond (ltb rows n) (at-line number (row-numbers separator (Y - suc rows) cumulated (n - rows) line)) (faulty number 0 NoFurtherRow)
+    cond (ltb rows n) (at-line number (row-numbers separator (Y - suc rows) cumulated false (n - rows) line)) (faulty number 0 NoFurtherRow)
 row-in separator Openings number rows room line = at-line number (openings-numbers separator room line)
 
 -- a line that is such a row, or else blank, and the number of rows after it
@@ -101,10 +101,10 @@ pub record LinesInput (text : List ℕ) (from number : ℕ) (shape : Shape) (roo
   pub few-lines : number ≤ from
   pub room-for-all : Room shape 0 room
 
--- what was wrong with the row at a line
-abbrev pub fault-at : ℕ → RowRead → Fault
-fault-at number read.the-variants.Right = Nothing
-fault-at number (read.the-variants.Wrong cell fault) = At number cell (InCell fault)
+-- what was read of the row at a line
+abbrev pub read-at : ℕ → RowRead → BlockRead
+read-at number (read.the-variants.Right count) = record { count = count; fault = Nothing }
+read-at number (read.the-variants.Wrong cell fault) = record { count = 0; fault = At number cell (InCell fault) }
 
 abbrev pub fault-of : Block → Fault
 fault-of (numbers others) = Nothing

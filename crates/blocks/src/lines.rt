@@ -4,7 +4,7 @@ ghost use Prim.Native.Nat.{_+_, _-_, _≤_};
 ghost use lib.ListN.{length, drop};
 ghost use Rattle.text.specs.Bytes.{longest-text};
 ghost use Rattle.text.specs.Lines.{lines};
-ghost use Rattle.blocks.specs.Blocks.{row-in, line-in, block-from, Room, LinesInput, BlockReadAs, LineReadAs, fault-at};
+ghost use Rattle.blocks.specs.Blocks.{row-in, line-in, block-from, Room, LinesInput, BlockReadAs, LineReadAs, read-at};
 ghost use Rattle.blocks.specs.Blocks as meaning;
 use crate::faults::Expected;
 use crate::faults::Fault;
@@ -12,7 +12,6 @@ use line_kinds::kinds::LineKind;
 use line_kinds::kinds::is_heading;
 use line_kinds::kinds::kind_of;
 use line_kinds::kinds::same_kind;
-use row_text::openings::read_openings_row;
 use row_text::rows::RowRead;
 use row_text::rows::read_row;
 use text::lines::first_line;
@@ -170,12 +169,10 @@ fn read_of_triangle(
         separator,
         less(cut, rows + 1),
         cumulated,
+        false,
         &mut list[0..cells],
     );
-    BlockRead {
-        count: cells,
-        fault: fault_at(number, read),
-    }
+    read_at(number, read)
 }
 
 fn read_of_openings(
@@ -189,12 +186,8 @@ fn read_of_openings(
     ensures { λ r. ⌜ LineReadAs Shape.Openings (rows + 1)
         (row-in separator Shape.Openings number rows (length (now (list .entry))) (now (line .entry))) r (now (list .exit)) ⌝ }
 {
-    let openings = read_openings_row(line, separator, list);
-    let read = openings.read;
-    BlockRead {
-        count: openings.count,
-        fault: fault_at(number, read),
-    }
+    let read = read_row(line, separator, 0, false, true, list);
+    read_at(number, read)
 }
 
 // The first less the second, or 0.
@@ -204,12 +197,18 @@ pub(crate) fn less(a: usize, b: usize) -> usize
     if a < b { 0 } else { a - b }
 }
 
-// What was wrong with the row at a line.
-fn fault_at(number: usize, read: RowRead) -> Fault
-    ensures { λ r. ⌜ r ≡ fault-at number read ⌝ }
+// What was read of the row at a line.
+fn read_at(number: usize, read: RowRead) -> BlockRead
+    ensures { λ r. ⌜ r ≡ read-at number read ⌝ }
 {
     match read {
-        RowRead::Right => Fault::Nothing,
-        RowRead::Wrong(cell, fault) => Fault::At(number, cell, Expected::InCell(fault)),
+        RowRead::Right(count) => BlockRead {
+            count: count,
+            fault: Fault::Nothing,
+        },
+        RowRead::Wrong(cell, fault) => BlockRead {
+            count: 0,
+            fault: Fault::At(number, cell, Expected::InCell(fault)),
+        },
     }
 }

@@ -1,8 +1,8 @@
 -- What the call that fills both lists answers.
 use mathlib.Core.Path.{_≡_}
 use mathlib.Core.List.{List}
+use Prim.Native.Nat.{ℕ}
 use lib.IntN.{ℤ}
-use lib.ListN.{length}
 use Rattle.method.specs.Triangle.{Triangle}
 use Rattle.method.specs.RunOff.{Method, method}
 use Rattle.method.specs.RunOff as meaning
@@ -21,9 +21,7 @@ pub record RowsProjected (m : Method) (v : Verdict) (future reserves : List ℤ)
   pub reserves-are : v ≡ accepted → reserves ≡ meaning.reserves m
 
 -- both lists filled, where all questions accept; what a refusal leaves in them is cleared afterwards
-pub record Filled (t : Triangle) (future-before reserves-before : List ℤ) (v : Verdict) (future reserves : List ℤ) : Type 0 where
-  pub verdict-is : v ≡ questions t (lengths-right t (length future-before) (length reserves-before))
+pub record Filled (t : Triangle) (future-room reserves-room : ℕ) (v : Verdict) (future reserves : List ℤ) : Type 0 where
+  pub verdict-is : v ≡ questions t (lengths-right t future-room reserves-room)
   pub future-is : v ≡ accepted → future ≡ meaning.future (method t)
   pub reserves-are : v ≡ accepted → reserves ≡ meaning.reserves (method t)
-  pub future-length : length future ≡ length future-before
-  pub reserves-length : length reserves ≡ length reserves-before

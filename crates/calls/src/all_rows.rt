@@ -29,7 +29,6 @@ pub(crate) fn project<'a>(
     requires { ⌜ Projectable n (now years) (now outstandings) ⌝ }
     requires { ⌜ (length (now future) ≡ future-length n) × (length (now reserves) ≡ reserves-length n) ⌝ }
     ensures { λ r. ⌜ RowsProjected (method-read n (ratios-of (now (years .entry))) (now (outstandings .entry))) (verdict-of r) (now (future .exit)) (now (reserves .exit)) ⌝ }
-    ensures { λ _. ⌜ (length (now (future .exit)) ≡ length (now (future .entry))) × (length (now (reserves .exit)) ≡ length (now (reserves .entry))) ⌝ }
 {
     let mut future_at = 0;
     let mut r = 0;

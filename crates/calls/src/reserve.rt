@@ -77,7 +77,7 @@ fn fill<'a>(
 ) -> Verdict
     ensures { λ r. ⌜ Filled
         (triangle-of years cut (now (payments .entry)) (now (adjustments .entry)) (now (weights .entry)) (now (openings .entry)))
-        (now (future .entry)) (now (reserves .entry)) (verdict-of r) (now (future .exit)) (now (reserves .exit)) ⌝ }
+        (length (now (future .entry))) (length (now (reserves .entry))) (verdict-of r) (now (future .exit)) (now (reserves .exit)) ⌝ }
 {
     let answers = AnswerLists::FutureAndReserves(future.len(), reserves.len());
     let reading = read(

@@ -7,6 +7,7 @@ ghost use Rattle.method.specs.Triangle.{entry};
 ghost use Rattle.method.specs.Tests.{outstanding-in-range};
 ghost use Rattle.verdicts.specs.Verdicts.{verdict-of};
 ghost use Rattle.outstandings.specs.Observed.{AmountsRight, RowAmountsRight, row-of-outstandings, all-outstandings, Movable};
+use lists::number_at;
 use verdicts::limits::GREATEST_OUTSTANDING;
 use verdicts::limits::from_to;
 use verdicts::verdict::Verdict;
@@ -48,7 +49,7 @@ pub fn question_6<'a>(
 pub fn opening_of(openings: &[i64], r: usize) -> i64
     ensures { λ x. ⌜ x ≡ entry (now (openings .entry)) (suc r) ⌝ }
 {
-    if r < openings.len() { openings[r] } else { 0 }
+    number_at(openings, r)
 }
 
 // The outstandings of the row of accident year i, which has passed question 5.

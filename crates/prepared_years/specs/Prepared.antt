@@ -56,9 +56,6 @@ pub record RatiosInRange (n : ℕ) (ratios : List Sums) : Type 0 where
   pub most : n ≤ most-accident-years
   pub year : (j : ℕ) → j + 1 < n → SumsInRange (sums-of (getD ratios j no-sums))
 
-pub record YearsReady (n : ℕ) (years : List (List ℕ)) : Type 0 where
-  pub year : (j : ℕ) → j + 1 < n → YearReady (year-of (getD years j []))
-
 -- a year at a place, prepared from the ratios at that place
 abbrev pub PreparedFrom : List Sums → ℕ → List ℕ → Type 0
 PreparedFrom ratios j numbers = YearReady (year-of numbers) × (year-sums (year-of numbers) ≡ getD ratios j no-sums)

@@ -1,5 +1,5 @@
 -- What a projected year is asked of, and its answer.
-use mathlib.Core.Bool.{Bool, true, false}
+use mathlib.Core.Bool.{cond}
 use lib.IntN.{ℤ, pos}
 use lib.Signed.{_≤ℤ_}
 use Rattle.method.specs.SumLimits.{SumsInRange}
@@ -24,10 +24,6 @@ movement-of m = record {
   outstanding = record { 0 = m .outstanding };
 }
 
-abbrev kept : Bool → meaning.Movement → ProjectedYear
-kept true m = Within (movement-of m)
-kept false m = TooLarge
-
 -- a movement, where its figures are within the limit of question 9
 unfoldable pub year-or-too-large : meaning.Movement → ProjectedYear
-year-or-too-large m = kept (figures-in-range m) m
+year-or-too-large m = cond (figures-in-range m) (Within (movement-of m)) TooLarge

@@ -27,7 +27,8 @@ no-sums = record { payments = pos 0; adjustments = pos 0; exposure = pos 0 }
 
 -- ---- A whole triangle
 
--- the ratios of development year k, as its sums, at k − 1, and the last observed outstanding of accident year i at i − 1
+-- Every place of both lists: the ratios of development year k, as its sums, at k − 1, and the last observed outstanding of accident year i
+-- at i − 1; zeros beyond.
 pub record DevelopmentOf (t : Triangle) (ratios : List Sums) (outstandings : List ℤ) : Type 0 where
   pub year : (k : ℕ) → k + 1 < n t → sums-of (getD ratios k no-sums) ≡ sums t (k + 1)
   pub year-beyond : (k : ℕ) → n t ≤ k + 1 → getD ratios k no-sums ≡ no-sums

@@ -1,19 +1,19 @@
 -- Every line on a refusal has room: nothing of it is cut off, whatever its numbers are.
-use mathlib.Core.Path.{refl}
-use mathlib.Core.Bool.{Bool, cond}
-use mathlib.Core.List.{List}
-use Prim.Native.Nat.{ℕ, _≤_}
-use lib.Dec.{eqb}
+use mathlib.Core.Path.{_≡_, refl}
+use mathlib.Core.Bool.{Bool, true, cond}
+use mathlib.Core.List.{List, [], _∷_}
+use Prim.Native.Nat.{ℕ, _+_, _*_, _≤_}
+use lib.Dec.{leb, eqb}
 use lib.IntN.{ℤ, pos, negℤ}
 use lib.ListN.{length}
 use lib.Signed.{ltZ}
 use Rattle.method.specs.Limits.{greatest-amount}
 use Rattle.method.specs.Tests.{from-to}
-use Rattle.printed.specs.Filling.{places}
+use Rattle.printed.specs.Filling.{filled, places}
 use Rattle.printed.proofs.Room.{one-of-two, filled-fits}
 use Rattle.refusals.specs.declared.found.Lent.{Lent}
 use Rattle.refusals.specs.declared.found.Found.{Found}
-use Rattle.refusals.specs.Sentences.{refused-line, years-sentence, cut-sentence, lengths-sentence, weight-sentence, weight-not-0-sentence, payment-sentence, adjustment-sentence, opening-sentence, outstanding-sentence, exposure-sentence, projected-sentence, seen-cell-sentence, amounts-sentence, observed-sentence, sentence, see-line, see-lines}
+use Rattle.refusals.specs.Sentences.{refused-line, years-sentence, cut-sentence, lengths-sentence, weight-sentence, weight-not-0-sentence, amount-sentence, opening-sentence, outstanding-sentence, exposure-sentence, projected-sentence, seen-cell-sentence, amounts-sentence, observed-sentence, sentence, see-line, see-lines}
 
 -- the text of one of two lines
 either : (b : Bool) (x y : List ℕ) → length x ≤ 511 → length y ≤ 511 → length (cond b x y) ≤ 511
@@ -44,13 +44,12 @@ module _ (i k : ℤ) where
   unfolding weight-not-0-sentence places
   weight-not-0-fits x = filled-fits 511 _ _ refl
 
-  payment-fits : (x : ℤ) → length (payment-sentence i k x) ≤ 511
-  unfolding payment-sentence places
-  payment-fits x = either (from-to (negℤ greatest-amount) greatest-amount x) _ _ (filled-fits 511 _ _ refl) (filled-fits 511 _ _ refl)
-
-  adjustment-fits : (x : ℤ) → length (adjustment-sentence i k x) ≤ 511
-  unfolding adjustment-sentence places
-  adjustment-fits x = either (from-to (negℤ greatest-amount) greatest-amount x) _ _ (filled-fits 511 _ _ refl) (filled-fits 511 _ _ refl)
+  amount-fits : (missing beyond : List ℕ) (x : ℤ) → leb (length missing + 28 * places missing) 511 ≡ true → leb (length beyond + 28 * places beyond) 511 ≡ true
+      → length (amount-sentence missing beyond i k x) ≤ 511
+  unfolding amount-sentence
+  amount-fits missing beyond x p q =
+      one-of-two (λ template. length (filled template (i ∷ k ∷ x ∷ []))) 511 (from-to (negℤ greatest-amount) greatest-amount x) missing beyond
+      (filled-fits 511 _ _ p) (filled-fits 511 _ _ q)
 
   opening-fits : (x : ℤ) → length (opening-sentence i k x) ≤ 511
   unfolding opening-sentence places
@@ -69,8 +68,8 @@ module _ (i k : ℤ) where
   seen-cell-fits = filled-fits 511 _ _ refl
 
   amounts-fit : (found : Found) → length (amounts-sentence i k found) ≤ 511
-  unfolding amounts-sentence
-  amounts-fit found = either (found .«payment_right») _ _ (adjustment-fits (found .adjustment)) (payment-fits (found .payment))
+  unfolding amounts-sentence places
+  amounts-fit found = either (found .«payment_right») _ _ (amount-fits _ _ (found .adjustment) refl refl) (amount-fits _ _ (found .payment) refl refl)
 
   observed-fits : (found : Found) → length (observed-sentence i k found) ≤ 511
   unfolding observed-sentence

@@ -4,13 +4,12 @@ ghost use Rattle.printed.specs.Line.{LineIs};
 ghost use Rattle.refusals.specs.Sentences as meaning;
 use crate::found::Found;
 use crate::found::Lent;
-use crate::sentences::adjustment_sentence;
+use crate::sentences::amount_sentence;
 use crate::sentences::cut_sentence;
 use crate::sentences::exposure_sentence;
 use crate::sentences::lengths_sentence;
 use crate::sentences::opening_sentence;
 use crate::sentences::outstanding_sentence;
-use crate::sentences::payment_sentence;
 use crate::sentences::projected_sentence;
 use crate::sentences::seen_cell_sentence;
 use crate::sentences::weight_not_0_sentence;
@@ -60,9 +59,21 @@ fn amounts_sentence(i: i64, k: i64, found: Found) -> Line
     ensures { λ r. ⌜ LineIs (meaning.amounts-sentence i k found) r ⌝ }
 {
     if found.payment_right {
-        return adjustment_sentence(i, k, found.adjustment);
+        return amount_sentence(
+            b"The adjustment of accident year @ in development year @ is @ and not 0, though the cell is missing: its years add up to no more than the cut.",
+            b"The adjustment of accident year @ in development year @ is @ and not from -1,000,000,000 to 1,000,000,000.",
+            i,
+            k,
+            found.adjustment,
+        );
     }
-    payment_sentence(i, k, found.payment)
+    amount_sentence(
+        b"The payment of accident year @ in development year @ is @ and not 0, though the cell is missing: its years add up to no more than the cut.",
+        b"The payment of accident year @ in development year @ is @ and not from -1,000,000,000 to 1,000,000,000.",
+        i,
+        k,
+        found.payment,
+    )
 }
 
 fn observed_sentence(i: i64, k: i64, found: Found) -> Line

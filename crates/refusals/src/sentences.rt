@@ -81,42 +81,20 @@ pub(crate) fn weight_not_0_sentence(i: i64, k: i64, x: i64) -> Line
     )
 }
 
-pub(crate) fn payment_sentence(i: i64, k: i64, x: i64) -> Line
-    ensures { λ r. ⌜ LineIs (meaning.payment-sentence i k x) r ⌝ }
+// An amount within the limit is wrong only where its cell is missing: the first sentence says that, and the second that it is beyond the limit.
+pub(crate) fn amount_sentence<'a>(
+    missing: &'a [u8],
+    beyond: &'a [u8],
+    i: i64,
+    k: i64,
+    x: i64,
+) -> Line
+    ensures { λ r. ⌜ LineIs (meaning.amount-sentence (now (missing .entry)) (now (beyond .entry)) i k x) r ⌝ }
 {
     if from_to(-GREATEST_AMOUNT, GREATEST_AMOUNT, x) {
-        return filled_3(
-            b"The payment of accident year @ in development year @ is @ and not 0, though the cell is missing: its years add up to no more than the cut.",
-            i,
-            k,
-            x,
-        );
+        return filled_3(missing, i, k, x);
     }
-    filled_3(
-        b"The payment of accident year @ in development year @ is @ and not from -1,000,000,000 to 1,000,000,000.",
-        i,
-        k,
-        x,
-    )
-}
-
-pub(crate) fn adjustment_sentence(i: i64, k: i64, x: i64) -> Line
-    ensures { λ r. ⌜ LineIs (meaning.adjustment-sentence i k x) r ⌝ }
-{
-    if from_to(-GREATEST_AMOUNT, GREATEST_AMOUNT, x) {
-        return filled_3(
-            b"The adjustment of accident year @ in development year @ is @ and not 0, though the cell is missing: its years add up to no more than the cut.",
-            i,
-            k,
-            x,
-        );
-    }
-    filled_3(
-        b"The adjustment of accident year @ in development year @ is @ and not from -1,000,000,000 to 1,000,000,000.",
-        i,
-        k,
-        x,
-    )
+    filled_3(beyond, i, k, x)
 }
 
 pub(crate) fn opening_sentence(i: i64, k: i64, x: i64) -> Line

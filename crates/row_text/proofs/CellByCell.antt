@@ -1,15 +1,16 @@
 -- A line that is read cell by cell into a list, over the meaning of what is left of the line.
-use mathlib.Core.Path.{_≡_, refl, sym, ap, ap₂, _∙_}
+use mathlib.Core.Path.{_≡_, refl, sym, ap, ap₂, _∙_, subst}
 use mathlib.Core.List.{List, [], _∷_, _++_, append-nil}
 use Prim.Native.Nat.{ℕ, suc, _+_, _-_, _≤_, _<_}
+use native.Mathlib.Nat.{zero-add}
 use native.Mathlib.Numerals.{add-one}
 use native.Mathlib.Omega.{arith}
 use lib.IntN.{ℤ}
 use lib.ListN.{length, take, drop, set, length-set}
-use lib.Seq.{append-snoc, drop-drop, take-all, take-suc-set, length-take-le}
+use lib.Seq.{append-snoc, drop-drop, take-suc-set, length-take-le}
 use Rattle.lists.proofs.Parts.{whole-rest, rest-within}
 use Rattle.line_parts.specs.Cells.{first-cell, after-cell}
-use Rattle.row_text.specs.Rows.{RowNumbers, numbers, wrong, with-number, after-entry, row-read, RowReadAs, OpeningsReadAs}
+use Rattle.row_text.specs.Rows.{RowNumbers, numbers, wrong, with-number, after-entry, row-read, RowReadAs}
 use Rattle.row_text.specs.declared.entries.CellFault.{CellFault}
 use Rattle.row_text.specs.declared.entries.Entry.{Entry}
 use Rattle.row_text.specs.declared.entries.Entry.the-variants.{Amount, Wrong}
@@ -105,32 +106,14 @@ module _ {meaning : RowNumbers} {line : List ℕ} {before after : List ℤ} {sta
 
   pub row-wrong : {cell : ℕ} {fault : CellFault} {r : RowRead} → left ≡ wrong cell fault → r ≡ read.the-variants.Wrong cell fault → RowReadAs meaning r after
   row-wrong e is = record {
-    read-is = is ∙ sym (ap row-read (is-wrong e));
+    read-is = is ∙ sym (ap (row-read 0) (is-wrong e));
     numbers-are = λ others n. absurd (never-both (is-wrong e) n);
   }
 
-  pub row-right : {r : RowRead} → left ≡ numbers [] → length after ≤ cells → r ≡ read.the-variants.Right → RowReadAs meaning r after
-  row-right e h is = record {
-    read-is = is ∙ sym (ap row-read (is-right e));
-    numbers-are = λ others n. sym (take-all cells after h) ∙ same-numbers (is-right e) n;
-  }
-
-  counted-within : cells ≤ length after
-  counted-within = omega (arith, s .cells-within, s .same-length)
-
-  pub openings-wrong : {cell : ℕ} {fault : CellFault} {r : RowRead} → left ≡ wrong cell fault → r ≡ read.the-variants.Wrong cell fault
-      → OpeningsReadAs meaning (record { count = cells; read = r }) after
-  openings-wrong e is = record {
-    read-is = is ∙ sym (ap row-read (is-wrong e));
-    count-is = λ others n. absurd (never-both (is-wrong e) n);
-    numbers-are = λ others n. absurd (never-both (is-wrong e) n);
-    within = counted-within;
-  }
-
-  pub openings-right : left ≡ numbers [] → OpeningsReadAs meaning (record { count = cells; read = read.the-variants.Right }) after
-  openings-right e = record {
-    read-is = sym (ap row-read (is-right e));
-    count-is = λ others n. sym (length-take-le cells after counted-within) ∙ ap length (same-numbers (is-right e) n);
-    numbers-are = λ others n. same-numbers (is-right e) n;
-    within = counted-within;
-  }
+  pub row-right : {r : RowRead} → left ≡ numbers [] → r ≡ read.the-variants.Right cells → RowReadAs meaning r after
+  row-right e is =
+      let long = length-take-le cells after (omega (arith, s .cells-within, s .same-length)) in
+      record {
+        read-is = is ∙ ap read.the-variants.Right (sym (zero-add (length (take cells after)) ∙ long)) ∙ sym (ap (row-read 0) (is-right e));
+        numbers-are = λ others n. subst (λ (first : List ℤ). take (length first) after ≡ first) (same-numbers (is-right e) n) (ap (λ count. take count after) long);
+      }

@@ -1,6 +1,6 @@
 -- The numbers of a row of text, cell after cell.
 use mathlib.Core.Path.{_≡_}
-use mathlib.Core.Bool.{Bool, true, false}
+use mathlib.Core.Bool.{Bool, true, false, cond}
 use mathlib.Core.List.{List, [], _∷_}
 use Prim.Native.Nat.{ℕ, zero, suc, _+_, _≤_}
 use lib.Dec.{ltb, eqb}
@@ -18,7 +18,6 @@ use Rattle.row_text.specs.declared.entries.Entry.{Entry}
 use Rattle.row_text.specs.declared.entries.Entry.the-variants.{Amount, Wrong}
 use Rattle.row_text.specs.declared.rows.RowRead.{RowRead}
 use Rattle.row_text.specs.declared.rows.RowRead as read
-use Rattle.row_text.specs.declared.openings.OpeningsRead.{OpeningsRead}
 
 -- The numbers of a row, or its first cell, counted from 1, that is wrong.
 pub data RowNumbers : Type 0 where
@@ -40,43 +39,36 @@ unfoldable pub occurrences : ℕ → List ℕ → ℕ
 occurrences byte [] = 0
 occurrences byte (other ∷ text) = elim (eqb other byte) [ true ↦ suc (occurrences byte text) | false ↦ occurrences byte text ]
 
-module _ (separator : ℕ) where
-  -- ---- A row of so many numbers
+-- a row that may end early does so where nothing but blank cells is left of its line
+abbrev pub ends-here : Bool → List ℕ → Bool
+ends-here true [] = true
+ends-here true (byte ∷ rest) = false
+ends-here false rest = false
 
-  -- what is left of a line after its last number, in so many cells, from its first byte on that is neither a space nor a separator
-  abbrev pub ended : ℕ → List ℕ → List ℕ → RowNumbers
-  ended cells rest [] = numbers []
-  ended cells rest (byte ∷ others) = wrong (cells + 1 + occurrences separator (before (NeitherSpaceNor separator) rest)) RowEnd
+module _ (separator : ℕ) where
+  -- What is left of a line after its last number, in so many cells, from its first byte on that is neither a space nor a separator.
+  -- A row that may end early is one of openings.
+  abbrev pub ended : Bool → ℕ → List ℕ → List ℕ → RowNumbers
+  ended early cells rest [] = numbers []
+  ended true cells rest (byte ∷ others) = wrong (cells + 1) NoFurtherOpening
+  ended false cells rest (byte ∷ others) = wrong (cells + 1 + occurrences separator (before (NeitherSpaceNor separator) rest)) RowEnd
 
   -- so many numbers of what is left of a line, after so many cells and a figure; of all cells some are missing
-  unfoldable pub numbers-from : ℕ → Bool → ℕ → ℕ → ℤ → List ℕ → RowNumbers
-  numbers-from missing cumulated zero cells figure rest = ended cells rest (from-content separator rest)
-  numbers-from missing cumulated (suc left) cells figure rest =
-      after-entry cells (entry-of (figure-of (first-cell separator rest)) (ltb cells missing) cumulated figure)
-      (λ next. numbers-from missing cumulated left (suc cells) next (after-cell separator rest))
+  unfoldable pub numbers-from : ℕ → Bool → Bool → ℕ → ℕ → ℤ → List ℕ → RowNumbers
+  numbers-from missing cumulated early zero cells figure rest = ended early cells rest (from-content separator rest)
+  numbers-from missing cumulated early (suc left) cells figure rest =
+      cond (ends-here early (from-content separator rest))
+      (numbers [])
+      (after-entry cells (entry-of (figure-of (first-cell separator rest)) (ltb cells missing) cumulated figure)
+      (λ next. numbers-from missing cumulated early left (suc cells) next (after-cell separator rest)))
 
-  -- A row of so many numbers. The cells that follow are blank, and its first cells, as many as are missing, may be.
-  abbrev pub row-numbers : ℕ → Bool → ℕ → List ℕ → RowNumbers
-  row-numbers missing cumulated count line = numbers-from missing cumulated count 0 (pos 0) line
-
-  -- ---- A row of openings
-
-  -- a line that is blank from here on has no further number
-  abbrev pub unless-blank : List ℕ → RowNumbers → RowNumbers
-  unless-blank [] others = numbers []
-  unless-blank (byte ∷ rest) others = others
-
-  -- at most so many openings of what is left of a line, after so many cells
-  unfoldable pub openings-from : ℕ → ℕ → List ℕ → RowNumbers
-  openings-from zero cells rest = unless-blank (from-content separator rest) (wrong (suc cells) NoFurtherOpening)
-  openings-from (suc room) cells rest =
-      unless-blank (from-content separator rest)
-      (after-entry cells (entry-of (figure-of (first-cell separator rest)) false false (pos 0))
-      (λ next. openings-from room (suc cells) (after-cell separator rest)))
+  -- A row of so many numbers, or at most so many where it may end early. The cells that follow are blank, and its first cells, as many as are missing, may be.
+  abbrev pub row-numbers : ℕ → Bool → Bool → ℕ → List ℕ → RowNumbers
+  row-numbers missing cumulated early count line = numbers-from missing cumulated early count 0 (pos 0) line
 
   -- A row of as many openings as it has cells, but for blank ones at its end; there is room for so many.
   abbrev pub openings-numbers : ℕ → List ℕ → RowNumbers
-  openings-numbers room line = openings-from room 0 line
+  openings-numbers = row-numbers 0 false true
 
 -- ---- What the functions ask and answer
 
@@ -85,22 +77,17 @@ pub record RowInput (line : List ℕ) (list : List ℤ) : Type 0 where
   pub line-short : length line ≤ longest-text
   pub list-short : length list ≤ 32
 
+-- a row that ends with this entry, in the cell of this number
 abbrev pub entry-read : ℕ → Entry → RowRead
-entry-read cell (Amount amount figure) = read.the-variants.Right
+entry-read cell (Amount amount figure) = read.the-variants.Right cell
 entry-read cell (Wrong fault) = read.the-variants.Wrong cell fault
 
-abbrev pub row-read : RowNumbers → RowRead
-row-read (numbers others) = read.the-variants.Right
-row-read (wrong cell fault) = read.the-variants.Wrong cell fault
+-- a row that goes on so, after so many numbers
+abbrev pub row-read : ℕ → RowNumbers → RowRead
+row-read count (numbers others) = read.the-variants.Right (count + length others)
+row-read count (wrong cell fault) = read.the-variants.Wrong cell fault
 
--- The answer on a row, and the list that it was read into.
+-- The answer on a row, and its numbers from the left of the list that it was read into.
 pub record RowReadAs (meaning : RowNumbers) (r : RowRead) (list : List ℤ) : Type 0 where
-  pub read-is : r ≡ row-read meaning
-  pub numbers-are : (others : List ℤ) → meaning ≡ numbers others → list ≡ others
-
--- The same of openings, of which there are as many as the line has.
-pub record OpeningsReadAs (meaning : RowNumbers) (r : OpeningsRead) (list : List ℤ) : Type 0 where
-  pub read-is : r .read ≡ row-read meaning
-  pub count-is : (others : List ℤ) → meaning ≡ numbers others → r .count ≡ length others
-  pub numbers-are : (others : List ℤ) → meaning ≡ numbers others → take (r .count) list ≡ others
-  pub within : r .count ≤ length list
+  pub read-is : r ≡ row-read 0 meaning
+  pub numbers-are : (others : List ℤ) → meaning ≡ numbers others → take (length others) list ≡ others

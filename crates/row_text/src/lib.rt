@@ -1,4 +1,3 @@
 // A row of numbers in a text, read into a list.
 pub mod entries;
-pub mod openings;
 pub mod rows;

@@ -1,10 +1,10 @@
-// A row of so many numbers.
+// A row of numbers: so many, or as many openings as it has.
 ghost use mathlib.Core.Path.{_≡_};
 ghost use Prim.Native.Nat.{_≤_};
 ghost use lib.ListN.{length};
 ghost use Rattle.text.specs.Bytes.{longest-text};
 ghost use Rattle.line_parts.specs.Cells.{from-content};
-ghost use Rattle.row_text.specs.Rows.{row-numbers, row-read, entry-read, ended, occurrences, RowInput, RowReadAs};
+ghost use Rattle.row_text.specs.Rows.{row-numbers, row-read, entry-read, ends-here, ended, occurrences, RowInput, RowReadAs};
 use crate::entries::CellFault;
 use crate::entries::Entry;
 use crate::entries::entry_in;
@@ -14,60 +14,80 @@ use text::search::Sought;
 use text::search::find;
 
 pub enum RowRead {
-    Right,
+    // how many numbers
+    Right(usize),
     // the cell, counted from 1, and what was expected in it
     Wrong(usize, CellFault),
 }
 
-// Reads as many numbers as the row has, of whose cells so many are missing. What follows them is blank.
-// Where the figures are cumulated the row holds what each adds to the one before.
-// Where a cell is wrong, what the row then holds is left open.
+// Reads as many numbers as the list has room for, or at most as many where the row may end early; what follows them is blank.
+// Of the row's first cells so many are missing, and may be blank.
+// Where the figures are cumulated the list holds what each adds to the one before.
+// Where a cell is wrong, what the list then holds is left open.
 pub fn read_row(
     line: &[u8],
     separator: u8,
     missing: usize,
     cumulated: bool,
-    row: &mut [i64],
+    early: bool,
+    list: &mut [i64],
 ) -> RowRead
-    requires { ⌜ RowInput (now line) (now row) ⌝ }
-    ensures { λ r. ⌜ RowReadAs (row-numbers separator missing cumulated (length (now (row .entry))) (now (line .entry))) r (now (row .exit)) ⌝ }
+    requires { ⌜ RowInput (now line) (now list) ⌝ }
+    ensures { λ r. ⌜ RowReadAs (row-numbers separator missing cumulated early (length (now (list .entry))) (now (line .entry))) r (now (list .exit)) ⌝ }
 {
     let mut start = 0;
     let mut before = 0;
     let mut cells = 0;
-    while cells < row.len() {
+    while cells < list.len() {
+        if ends_here(&line[start..], separator, early) {
+            return RowRead::Right(cells);
+        }
         let cell = first_cell(&line[start..], separator);
         let entry = entry_in(cell, cells < missing, cumulated, before);
         let Entry::Amount(amount, figure) = entry else {
             return wrong_cell(cells + 1, entry);
         };
-        row[cells] = amount;
+        list[cells] = amount;
         before = figure;
         start += first_cell_length(&line[start..], separator);
         cells += 1;
     }
-    row_end(&line[start..], separator, cells)
+    row_end(&line[start..], separator, early, cells)
 }
 
-// The answer on a row whose cell of this number has this entry.
-pub(crate) fn wrong_cell(cell: usize, entry: Entry) -> RowRead
+// Whether a row that may end early does so here.
+fn ends_here(rest: &[u8], separator: u8, early: bool) -> bool
+    ensures { λ r. ⌜ r ≡ ends-here early (from-content separator (now (rest .entry))) ⌝ }
+{
+    if early {
+        let at = find(rest, Sought::NeitherSpaceNor(separator));
+        return at == rest.len();
+    }
+    false
+}
+
+// The answer on a row that ends with this entry, in the cell of this number.
+fn wrong_cell(cell: usize, entry: Entry) -> RowRead
     ensures { λ r. ⌜ r ≡ entry-read cell entry ⌝ }
 {
     match entry {
-        Entry::Amount(_, _) => RowRead::Right,
+        Entry::Amount(_, _) => RowRead::Right(cell),
         Entry::Wrong(fault) => RowRead::Wrong(cell, fault),
     }
 }
 
 // The row has ended after so many cells, and nothing but blank cells may follow.
-fn row_end(rest: &[u8], separator: u8, cells: usize) -> RowRead
+fn row_end(rest: &[u8], separator: u8, early: bool, cells: usize) -> RowRead
     requires { ⌜ (cells ≤ 32) × (length (now rest) ≤ longest-text) ⌝ }
-    ensures { λ r. ⌜ r ≡ row-read (ended separator cells (now (rest .entry)) (from-content separator (now (rest .entry)))) ⌝ }
+    ensures { λ r. ⌜ r ≡ row-read cells (ended separator early cells (now (rest .entry)) (from-content separator (now (rest .entry)))) ⌝ }
 {
-    let at = find(rest, Sought::NeitherSpaceNor(separator));
-    if at == rest.len() {
-        return RowRead::Right;
+    if ends_here(rest, separator, true) {
+        return RowRead::Right(cells);
     }
+    if early {
+        return RowRead::Wrong(cells + 1, CellFault::NoFurtherOpening);
+    }
+    let at = find(rest, Sought::NeitherSpaceNor(separator));
     RowRead::Wrong(
         cells + 1 + count(&rest[0..at], separator),
         CellFault::RowEnd,

@@ -176,7 +176,7 @@ module _ {n : ℕ} {years : List (List ℕ)} {outstandings : List ℤ} (ok : Pro
         last = y .last;
         most = ok .most;
         more = more;
-        ready = ok .ready .year (n - i + j) (omega (arith, y .last));
+        ready = ok .ready (n - i + j) (omega (arith, y .last));
         input = record {
           outstanding-nonneg = subst (λ (x : ℤ). pos 0 ≤ℤ x) (sym outstanding-is) (here .0);
           outstanding-most = subst (λ (x : ℤ). x ≤ℤ greatest-figure) (sym outstanding-is) (here .1);

@@ -1,5 +1,5 @@
 -- What was read off a triangle that questions 1 to 8 accept: it can be projected, its rows are the triangle's, and question 9 completes the verdict.
-use mathlib.Core.Path.{_≡_, refl, sym, ap, ap₂, _∙_}
+use mathlib.Core.Path.{_≡_, refl, sym, ap, ap₂, _∙_, subst}
 use mathlib.Core.List.{List}
 use Prim.Native.Nat.{ℕ, _+_, _-_, _≤_, _<_}
 use native.Mathlib.Omega.{arith}
@@ -26,8 +26,7 @@ use Rattle.questions.proofs.Counted.{lists-have-lengths}
 use Rattle.ratios.specs.declared.Sums.{Sums}
 use Rattle.ratios.specs.Ratios.{sums-of, DevelopmentOf}
 use Rattle.triangle.specs.declared.reading.Reading.{Reading}
-use Rattle.triangle.specs.Reading.{ReadingOf}
-use Rattle.triangle.proofs.Tables.{development-holds}
+use Rattle.triangle.specs.Reading.{DevelopmentIs, ReadingOf}
 use Rattle.prepared_years.specs.Prepared.{RatiosInRange, YearsPrepared, ratios-of}
 use Rattle.prepared_years.proofs.PreparedYears.{sums-at-place}
 use Rattle.run_off.specs.MethodRead.{sums-at, method-read, Projectable}
@@ -79,7 +78,7 @@ module _ {t : Triangle} {ratios : List Sums} {outstandings : List ℤ} {before y
   projectable : Observed t → question-8 t ≡ accepted → Projectable (n t) years outstandings
   projectable ok q₈ = record {
     most = ok .years .most;
-    ready = record { year = λ j h. p .prepared j h .0 };
+    ready = λ j h. p .prepared j h .0;
     sums-in-range = λ k first last. rw (sums-prepared k first last) (sums-right d ok q₈ k first last);
     outstanding-in-range = λ i first last. rw (outstanding-read d i first last) (R-in-range t ok i (last-observed (method t) i) first (omega arith));
   }
@@ -102,7 +101,8 @@ module _ {t : Triangle} {answers : AnswerLists} {r : Reading} (e : ReadingOf t a
   observed = observed-triangle t (lists-right t answers) (lists-have-lengths t answers) (both .0)
 
   pub was-read : DevelopmentOf t (r .development .ratios) (r .development .outstandings)
-  was-read = rw (e .development-is, passed) (development-holds t (observed .years .most))
+  unfolding DevelopmentIs
+  was-read = subst (λ (v : Verdict). DevelopmentIs t v (r .development)) passed (e .development-is)
 
   pub can-be-prepared : RatiosInRange (n t) (r .development .ratios)
   can-be-prepared = ratios-in-range was-read observed (both .1)

@@ -1,11 +1,11 @@
 -- What is answered and written of an accident year, from its state: accepted where all its years are behind, refused where the next one is too large.
-use mathlib.Core.Path.{_≡_, refl, sym, ap, ap₂, _∙_}
+use mathlib.Core.Path.{_≡_, sym, ap, ap₂, _∙_}
 use mathlib.Core.List.{List, [], _∷_, _++_}
 use Prim.Native.Nat.{ℕ, suc, _+_, _*_, _-_, _≤_, _<_}
 use native.Mathlib.Numerals.{add-one}
 use native.Mathlib.Omega.{arith}
-use lib.IntN.{ℤ}
-use lib.ListN.{length, take}
+use lib.IntN.{ℤ, pos}
+use lib.ListN.{length, take, replicate}
 use lib.Seq.{sets, length-sets}
 use Rattle.lists.proofs.Stored.{sets-append, sets-filled}
 use Rattle.method.specs.ProjectedYear.{figures}
@@ -23,7 +23,7 @@ use Rattle.projection.specs.Year.{year-or-too-large, movement-of}
 use Rattle.projection.proofs.Years.{too-large-year}
 use Rattle.run_off.specs.declared.state.RowState.{RowState}
 use Rattle.run_off.specs.declared.rows.ProjectedRow.{ProjectedRow}
-use Rattle.run_off.specs.Rows.{row-state, first-payment, figures-answered, no-figures, row-figures, RowProjected, years-written, RowWritten}
+use Rattle.run_off.specs.Rows.{row-state, first-payment, figures-answered, row-figures, RowProjected, years-written, RowWritten}
 use Rattle.run_off.proofs.ProjectedYears.{RowSoFar}
 
 module _ {m : Method} {i : ℕ} {s : RowState} (r : RowSoFar m i s) where
@@ -66,7 +66,7 @@ module _ {m : Method} {i : ℕ} {s : RowState} (r : RowSoFar m i s) where
         let place : suc (year-before m i (s .projected + 1)) ≡ m .years - i + s .projected + 2 = omega arith in
         next-refused (r .asked) (omega arith) (ask-no _ 9 _ (too-large-year _ e) ∙ ap (λ (k : ℕ). refused 9 (at i k)) place)
 
-    pub refused-row : {row : ProjectedRow} → (verdict-of (row .verdict) ≡ refused 9 (at i (m .years - i + s .projected + 2))) × (figures-answered row ≡ no-figures)
+    pub refused-row : {row : ProjectedRow} → (verdict-of (row .verdict) ≡ refused 9 (at i (m .years - i + s .projected + 2))) × (figures-answered row ≡ replicate 4 (pos 0))
         → RowProjected m i row
     unfolding row-figures
     refused-row (v, f) = record { verdict-is = v ∙ sym row-refused; figures-are = rw row-refused f }

@@ -1,6 +1,6 @@
 -- What was read off a triangle is a method too: the sums of its development years, and its last observed outstandings.
-use mathlib.Core.List.{List}
-use Prim.Native.Nat.{ℕ, _-_, _≤_, _<_}
+use mathlib.Core.List.{List, []}
+use Prim.Native.Nat.{ℕ, _+_, _-_, _≤_, _<_}
 use lib.IntN.{ℤ, pos}
 use lib.ListN.{getD}
 use lib.Signed.{_≤ℤ_}
@@ -12,7 +12,7 @@ use Rattle.method.specs.RunOff.{Method}
 use Rattle.method.specs.SumLimits.{SumsInRange}
 use Rattle.ratios.specs.declared.Sums.{Sums}
 use Rattle.ratios.specs.Ratios.{sums-of, no-sums}
-use Rattle.prepared_years.specs.Prepared.{YearsReady, ratios-of}
+use Rattle.prepared_years.specs.Prepared.{YearReady, year-of, ratios-of}
 
 -- the sums of development year k, which stand at k − 1
 abbrev pub sums-at : List Sums → ℕ → meaning.Sums
@@ -32,6 +32,6 @@ method-read n ratios outstandings = record {
 -- what questions 1 to 8 leave, with the development years prepared
 pub record Projectable (n : ℕ) (years : List (List ℕ)) (outstandings : List ℤ) : Type 0 where
   pub most : n ≤ most-accident-years
-  pub ready : YearsReady n years
+  pub ready : (j : ℕ) → j + 1 < n → YearReady (year-of (getD years j []))
   pub sums-in-range : (k : ℕ) → 1 ≤ k → k < n → SumsInRange (sums-at (ratios-of years) k)
   pub outstanding-in-range : (i : ℕ) → 1 ≤ i → i ≤ n → (pos 0 ≤ℤ entry outstandings i) × (entry outstandings i ≤ℤ greatest-outstanding)

@@ -3,7 +3,7 @@ use mathlib.Core.Path.{_≡_}
 use mathlib.Core.List.{List, [], _∷_, _++_}
 use Prim.Native.Nat.{ℕ, zero, suc, _+_, _*_, _-_, _≤_, _<_}
 use lib.IntN.{ℤ, pos, _+ℤ_, _*ℤ_, natAbs}
-use lib.ListN.{getD}
+use lib.ListN.{getD, replicate}
 use lib.Seq.{sets}
 use Rattle.method.specs.Limits.{one-unit, most-accident-years}
 use Rattle.method.specs.Triangle.{entry}
@@ -65,12 +65,9 @@ pub record YearToProject (n i : ℕ) (years : List (List ℕ)) (s : RowState) : 
   pub ready : YearReady (year-of (getD years (n - i + s .projected) []))
   pub input : ProjectedYearInput (s .outstanding .0) (sums-at (ratios-of years) (n - i + (s .projected + 1)))
 
--- what a row answers besides its verdict, and what a refused one does
+-- what a row answers besides its verdict
 abbrev pub figures-answered : ProjectedRow → List ℤ
 figures-answered r = r .paid .0 ∷ r .incurred .0 ∷ r .closing .0 ∷ r .«first_payment» .0 ∷ []
-
-abbrev pub no-figures : List ℤ
-no-figures = pos 0 ∷ pos 0 ∷ pos 0 ∷ pos 0 ∷ []
 
 module _ (m : Method) (i : ℕ) where
   -- ---- Accident year i after its first j projected years
@@ -93,7 +90,7 @@ module _ (m : Method) (i : ℕ) where
   -- its reserves and this payment; zeros where it is refused
   unfoldable pub row-figures : Verdict → List ℤ
   row-figures accepted = reserves-row m i ++ first-payment ∷ []
-  row-figures (refused question p) = no-figures
+  row-figures (refused question p) = replicate 4 (pos 0)
 
   pub record RowProjected (r : ProjectedRow) : Type 0 where
     pub verdict-is : verdict-of (r .verdict) ≡ question-9-of-year m i

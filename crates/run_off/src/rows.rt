@@ -3,7 +3,8 @@
 ghost use mathlib.Core.Path.{_≡_};
 ghost use mathlib.Core.List.{[], _∷_};
 ghost use Prim.Native.Nat.{_+_, _*_, _-_, _≤_, _<_};
-ghost use lib.ListN.{length};
+ghost use lib.IntN.{pos};
+ghost use lib.ListN.{length, replicate};
 ghost use lib.Seq.{sets};
 ghost use Rattle.method.specs.Limits.{most-accident-years};
 ghost use Rattle.method.specs.AnswerPlaces.{AccidentYear};
@@ -14,7 +15,7 @@ ghost use Rattle.verdicts.specs.declared.verdict.Verdict.the-variants.{Accepted
 ghost use Rattle.verdicts.specs.Verdicts.{verdict-of};
 ghost use Rattle.prepared_years.specs.Prepared.{ratios-of};
 ghost use Rattle.run_off.specs.MethodRead.{method-read, Projectable};
-ghost use Rattle.run_off.specs.Rows.{figures-answered, no-figures, RowProjected, RowWritten};
+ghost use Rattle.run_off.specs.Rows.{figures-answered, RowProjected, RowWritten};
 use crate::state::RowState;
 use crate::state::first_state;
 use crate::state::with_year;
@@ -146,7 +147,7 @@ fn accepted_row(state: RowState) -> ProjectedRow
 // The row whose year after these projected ones is refused.
 fn refused_row(n: usize, i: usize, projected: usize) -> ProjectedRow
     requires { ⌜ (i ≤ n) × (n ≤ most-accident-years) × (projected + 1 < i) ⌝ }
-    ensures { λ r. ⌜ (verdict-of (r .verdict) ≡ meaning.refused 9 (at i (n - i + projected + 2))) × (figures-answered r ≡ no-figures) ⌝ }
+    ensures { λ r. ⌜ (verdict-of (r .verdict) ≡ meaning.refused 9 (at i (n - i + projected + 2))) × (figures-answered r ≡ replicate 4 (pos 0)) ⌝ }
 {
     ProjectedRow {
         verdict: refusal_at(9, i, n - i + projected + 2),

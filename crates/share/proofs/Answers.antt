@@ -6,7 +6,7 @@ use borrow.Author.Tests.{leb-true, lt-leb}
 use lib.IntN.{ℤ, pos, negℤ, natAbs}
 use Rattle.method.specs.Limits.{greatest-figure}
 use Rattle.method.specs.Tests.{from-to, figure-in-range}
-use Rattle.method.proofs.Tests.{Says, differ, says-leb, says-map, says-from-to}
+use Rattle.method.proofs.Tests.{Says, differ, chosen, says-leb, says-map, says-from-to}
 use Rattle.integers.proofs.Order.{natAbs-≤}
 use Rattle.prepared_ratios.specs.Ratio.{greatest-size}
 use Rattle.share.specs.declared.millionths.Millionths.{Millionths}
@@ -55,11 +55,7 @@ rounded TooLarge = false
 -- which case it is says whether the size is within the limit
 case-is : (x : ℤ) → figure-in-range x ≡ rounded (share-or-too-large x)
 unfolding share-or-too-large rounded
-case-is x = go (figure-in-range x) refl
-  where
-    go : (b : Bool) → figure-in-range x ≡ b → figure-in-range x ≡ rounded (share-or-too-large x)
-    go true e = rw e
-    go false e = rw e
+case-is x = chosen rounded (figure-in-range x) _ _ refl refl
 
 pub too-large-is : (x : ℤ) → TooLarge ≡ share-or-too-large x → figure-in-range x ≡ false
 unfolding rounded

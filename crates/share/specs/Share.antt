@@ -1,6 +1,6 @@
 -- What a share is asked of, and its answer.
 use Prim.Native.Nat.{ℕ}
-use mathlib.Core.Bool.{Bool, true, false}
+use mathlib.Core.Bool.{cond}
 use lib.IntN.{ℤ, pos}
 use lib.Signed.{_≤ℤ_}
 use Rattle.method.specs.Limits.{greatest-figure}
@@ -16,10 +16,6 @@ pub record ShareInput (outstanding : ℤ) (ratio : Ratio) (exposure : ℕ) : Typ
   pub outstanding-most : outstanding ≤ℤ greatest-figure
   pub ready : Ready ratio exposure
 
-abbrev kept : Bool → ℤ → Share
-kept true x = Rounded (record { 0 = x })
-kept false x = TooLarge
-
 -- A share, where its size is within the limit of question 9.
 unfoldable pub share-or-too-large : ℤ → Share
-share-or-too-large x = kept (figure-in-range x) x
+share-or-too-large x = cond (figure-in-range x) (Rounded (record { 0 = x })) TooLarge

@@ -10,7 +10,7 @@ use Rattle.method.specs.RunOff.{movement, method}
 use Rattle.method.specs.AnswerPlaces.{AccidentYear}
 use Rattle.method.specs.Verdicts.{Place, Verdict, accepted, refused}
 use Rattle.method.specs.Questions.{question-9-of-year, question-9}
-use Rattle.method.specs.Answers.{CellAnswer, cell-verdict, cell-figures, single-cell}
+use Rattle.method.specs.Answers.{CellAnswer, accepted-cell, refused-cell, cell-verdict, cell-figures, single-cell}
 use Rattle.method.specs.Demand1.{Demand-1-of-cell}
 use Rattle.method.specs.Demand3.{CellOfFuture}
 use Rattle.method.proofs.Demands.{demand-1-of-cell-answer, cell-answer-of-future}
@@ -23,7 +23,6 @@ use Rattle.prepared_years.specs.Prepared.{YearsPrepared, ratios-of}
 use Rattle.run_off.specs.MethodRead.{method-read, Projectable}
 use Rattle.run_off.proofs.ReadTriangles.{rows-as-in-the-triangle}
 use Rattle.single_cell.specs.Cells.{CellYear}
-use Rattle.single_cell.specs.Answers.{accepted-cell, refused-cell}
 
 -- ---- The cell of a call
 

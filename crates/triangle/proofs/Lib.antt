@@ -1,4 +1,3 @@
 -- Laws that serve several functions, from below.
 pub mod Exposures
-pub mod Tables
 pub mod ReadingAnswers

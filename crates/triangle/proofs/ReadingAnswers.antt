@@ -1,5 +1,5 @@
 -- Reading a triangle: what makes up the answer, accepted or refused, and what a triangle which passed questions 1 to 7 shows.
-use mathlib.Core.Path.{_≡_, sym, ap, _∙_, subst}
+use mathlib.Core.Path.{_≡_, refl, sym, ap, _∙_, subst}
 use mathlib.Core.Bool.{true}
 use mathlib.Core.List.{List}
 use Prim.Native.Nat.{ℕ}
@@ -15,18 +15,18 @@ use Rattle.questions.specs.declared.lengths.AnswerLists.{AnswerLists}
 use Rattle.questions.specs.Inputs.{triangle-of, counted, lists-right}
 use Rattle.ratios.specs.declared.Development.{Development}
 use Rattle.ratios.specs.Ratios.{DevelopmentOf, Readable, DevelopmentRead}
-use Rattle.triangle.specs.Reading.{no-development, development, ReadingOf}
-use Rattle.triangle.proofs.Tables.{read-is}
+use Rattle.triangle.specs.Reading.{no-development, DevelopmentIs, ReadingOf}
 use Rattle.questions.proofs.Counted.{lists-have-lengths, inputs-right, counted-is}
 
 module _ (t : Triangle) (answers : AnswerLists) (v : code.Verdict) (e : verdict-of v ≡ observed-questions t (lists-right t answers)) where
   pub refused-reading : {question : ℕ} {p : Place} → verdict-of v ≡ refused question p → ReadingOf t answers (record { verdict = v; development = no-development })
-  unfolding development
-  refused-reading r = record { verdict-is = e; development-is = sym (ap (development t) (sym e ∙ r)) }
+  unfolding DevelopmentIs
+  refused-reading r = record { verdict-is = e; development-is = subst (λ (x : Verdict). DevelopmentIs t x no-development) (sym r ∙ e) refl }
 
   pub accepted-reading : (d : Development) → verdict-of v ≡ accepted → DevelopmentOf t (d .ratios) (d .outstandings)
       → ReadingOf t answers (record { verdict = v; development = d })
-  accepted-reading d a r = record { verdict-is = e; development-is = read-is t d r ∙ sym (ap (development t) (sym e ∙ a)) }
+  unfolding DevelopmentIs
+  accepted-reading d a r = record { verdict-is = e; development-is = subst (λ (x : Verdict). DevelopmentIs t x d) (sym a ∙ e) r }
 
 -- a triangle that passed questions 1 to 7
 module _ (years cut : ℤ) (payments adjustments weights openings : List ℤ) (answers : AnswerLists) where

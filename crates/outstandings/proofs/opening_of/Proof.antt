@@ -1,27 +1,17 @@
--- Inside the list, and beyond it.
+-- Number r + 1 of the list.
 use borrow.Author.Needs.{needs}
-use mathlib.Core.Path.{sym}
-use native.Mathlib.Omega.{arith}
-use lib.IntN.{pos}
-use lib.ListN.{List·getD-eq-default}
+use mathlib.Core.Path.{_∙_}
 use Rattle.integers.proofs.MachineArithmetic.{held}
 use Rattle.method.specs.Triangle.{entry}
 use Rattle.outstandings.proofs.opening_of.Statement.{statement}
 use Rattle.outstandings.proofs.opening_of.Tie as tie
 
-mul-result : tie.Need-mul-result
-mul-result c = search needs
-
-shared-slice-copy-out-result : tie.Need-shared-slice-copy-out-result
-shared-slice-copy-out-result c = search needs
+number-at-requires : tie.Need-number-at-requires
+number-at-requires c κs = search needs
 
 returns : tie.Need-returns
 unfolding entry
-returns c = held _ (c .result .given)
-
-returns-2 : tie.Need-returns-2
-unfolding entry
-returns-2 c = sym (List·getD-eq-default (c .before .args .openings .now) (pos 0) (omega arith))
+returns c = held (c .number-at .result) (c .number-at .ok) ∙ c .number-at .ensures
 
 pub opening-of-spec : {M : Type 1} → statement M
-opening-of-spec = tie.close (tie.spec mul-result shared-slice-copy-out-result returns returns-2)
+opening-of-spec = tie.close (tie.spec number-at-requires returns)

@@ -74,7 +74,7 @@ movement-year-at-requires : (t : ℕ) → movement-lts.Need-year-at-requires (ca
 movement-year-at-requires t c κs =
     let (y, later) = c .before .pre .1 in
     let k = c .before .args .k in
-    (omega (arith, y .last-year, y .row .last, y .readable .most), y .readable .ready .year (k - 2) (omega (arith, y .last-year, y .row .last)))
+    (omega (arith, y .last-year, y .row .last, y .readable .most), y .readable .ready (k - 2) (omega (arith, y .last-year, y .row .last)))
 
 -- the sums of the development year before
 sums-read : (t : ℕ) (c : movement-lts.After-year-at (called-by-movement t) (movement-at t) movement.Post) → let a = c .before .before .args in
@@ -88,7 +88,7 @@ movement-next-year-requires : (t : ℕ) → movement-lts.Need-next-year-requires
 movement-next-year-requires t c κs =
     let (y, later) = c .before .before .pre .1 in
     let k = c .before .before .args .k in (
-      rw (c .year-at .ensures) (y .readable .ready .year (k - 2) (omega (arith, y .last-year, y .row .last))),
+      rw (c .year-at .ensures) (y .readable .ready (k - 2) (omega (arith, y .last-year, y .row .last))),
       rw (c .before .outstanding .ensures, sums-read t c) (year-input y later (in-range (year-before-it y later))),
     )
 

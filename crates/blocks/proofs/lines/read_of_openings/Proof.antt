@@ -4,11 +4,11 @@ use Rattle.blocks.proofs.RowsOfBlock.{row-of-openings}
 use Rattle.blocks.proofs.lines.read_of_openings.Statement.{statement}
 use Rattle.blocks.proofs.lines.read_of_openings.Tie as tie
 
-read-openings-row-requires : tie.Need-read-openings-row-requires
-read-openings-row-requires c κs = search needs
+read-row-requires : tie.Need-read-row-requires
+read-row-requires c κs = search needs
 
-fault-at-requires : tie.Need-fault-at-requires
-fault-at-requires c κs = search needs
+read-at-requires : tie.Need-read-at-requires
+read-at-requires c κs = search needs
 
 same-length : tie.Need-same-length
 same-length c = search needs
@@ -16,9 +16,9 @@ same-length c = search needs
 returns : tie.Need-returns
 returns c =
     let s = c .before .before .before .before .before in
-    let read = c .before .before .read-openings-row in
-    rw (c .fault-at .ensures) (row-of-openings (s .args .separator) (s .args .number) (s .args .rows) (s .args .line .now) _ (s .pre .1) (c .before .list .given) (read .ensures))
+    let read = c .before .before .read-row in
+    rw (c .read-at .ensures) (row-of-openings (s .args .separator) (s .args .number) (s .args .rows) (s .args .line .now) _ (s .pre .1) (c .before .list .given) (read .ensures))
 
 pub read-of-openings-spec : {M : Type 1} → statement M
 read-of-openings-spec =
-    tie.close (tie.spec read-openings-row-requires fault-at-requires same-length returns)
+    tie.close (tie.spec read-row-requires read-at-requires same-length returns)

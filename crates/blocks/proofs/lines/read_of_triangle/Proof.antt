@@ -46,8 +46,8 @@ read-row-requires c κs =
     let pre = c .before .before .before .before .pre in
     record { line-short = pre .0; list-short = omega (arith, length-take (a .n - a .rows - 0) (a .list .now), pre .1 .0) }
 
-fault-at-requires : tie.Need-fault-at-requires
-fault-at-requires c κs = search needs
+read-at-requires : tie.Need-read-at-requires
+read-at-requires c κs = search needs
 
 same-length : tie.Need-same-length
 same-length c = search needs
@@ -62,11 +62,11 @@ returns-2 c =
     let read = c .before .before .read-row in
     let fit = fits before in
     let counted : length (take cells list) ≡ a .n - a .rows = length-take-le cells list (omega arith) ∙ sub-zero (a .n - a .rows) in
-    let part = read .last .1 .1 .1 .1 .0 in
+    let part = read .last .1 .1 .1 .1 .1 .0 in
     let lent : length part ≡ length (take cells list) = c .before .list .given .0 in
     let whole : length (part ++ drop cells list) ≡ length list = c .before .list .given .1 in
     let missing = c .before .before .before .before .less .ensures ∙ ap (λ r. a .cut - r) (add-one (a .rows)) in
-    rw (c .fault-at .ensures)
+    rw (c .read-at .ensures)
     (row-of-triangle (a .separator) (a .n) (a .cut) (a .cumulated) (a .number) (a .rows) (a .line .now)
     (drop cells list) (before .if1 .left) (rw whole (s .pre .1)) (rw (missing, counted) at (read .ensures)) (lent ∙ counted))
 
@@ -82,6 +82,6 @@ read-of-triangle-spec =
     part-read-row-start
     part-read-row-end
     read-row-requires
-    fault-at-requires
+    read-at-requires
     same-length
     returns-2)

@@ -58,7 +58,7 @@ same-length-2 c =
 returns : tie.Need-returns Inv-loop μ-loop
 returns c =
     let p = c .before .before .before in
-    (row-refused (turn p .before .loop .inv) (omega arith) (p .project-row-into .ensures) (ap verdict-of (c .enum-told2 .given .1)), (same-length c, same-length-2 c))
+    row-refused (turn p .before .loop .inv) (omega arith) (p .project-row-into .ensures) (ap verdict-of (c .enum-told2 .given .1))
 
 mul-write-reserves : tie.Need-mul-write-reserves Inv-loop μ-loop
 mul-write-reserves c = let b = few (turn (c .before .before .before .before)) in search needs
@@ -95,7 +95,7 @@ same-length-4 : tie.Need-same-length-4 Inv-loop μ-loop
 same-length-4 c = c .before .loop .inv .reserves-whole ∙ sym (c .before .before .pre .1 .1)
 
 returns-2 : tie.Need-returns-2 Inv-loop μ-loop
-returns-2 c = (all-rows (c .before .loop .inv) (omega arith), (same-length-3 c, same-length-4 c))
+returns-2 c = all-rows (c .before .loop .inv) (omega arith)
 
 pub project-spec : {M : Type 1} → statement M
 project-spec =

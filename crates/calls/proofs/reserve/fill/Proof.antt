@@ -83,7 +83,7 @@ returns-2 c =
     let p = c .before .before .before .before .before .before .before .before in
     let r = read-of p in
     let rows = simp (toZ-ofZ (r .before .fits .years)) at (c .before .before .project .ensures) in
-    projected (reading r) (yes-said (told-of p)) (prepared p) (rows .0) (rows .1)
+    projected (reading r) (yes-said (told-of p)) (prepared p) rows
 
 pub fill-spec : {M : Type 1} → statement M
 fill-spec =

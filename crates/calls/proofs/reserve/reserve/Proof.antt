@@ -3,7 +3,7 @@ use borrow.Author.Needs.{needs}
 use mathlib.Core.Path.{ap, _∙_}
 use Prim.Native.Nat.{ℕ}
 use lib.IntN.{pos}
-use lib.ListN.{replicate}
+use lib.ListN.{length, replicate}
 use mir.Facts.{toZ-ofZ}
 use Rattle.verdicts.specs.Verdicts.{verdict-of}
 use Rattle.questions.specs.Inputs.{triangle-of}
@@ -16,7 +16,7 @@ abbrev start : tie.After-fill → tie.Start
 start c = c .before .before .before
 
 filled : (c : tie.After-fill) → let a = start c .args in
-    Filled (triangle-of (a .years) (a .cut) (a .payments .now) (a .adjustments .now) (a .weights .now) (a .openings .now)) (a .future .now) (a .reserves .now)
+    Filled (triangle-of (a .years) (a .cut) (a .payments .now) (a .adjustments .now) (a .weights .now) (a .openings .now)) (length (a .future .now)) (length (a .reserves .now))
     (verdict-of (c .fill .result)) (c .fill .last .1 .1 .1 .1 .1 .1 .0) (c .fill .last .1 .1 .1 .1 .1 .1 .1 .0)
 filled c = simp (toZ-ofZ (start c .fits .years), toZ-ofZ (start c .fits .cut)) at (c .fill .ensures)
 
@@ -44,13 +44,13 @@ same-length-2 c = search needs
 returns : tie.Need-returns
 returns c =
     let cleared = c .before .before .before .before in
-    let f = filled (cleared .before .before .before .before .before .before) in
+    let call = cleared .before .before .before .before .before .before in
     let d = ap verdict-of (cleared .before .before .enum-told2 .given .1) in
     rw (
-      cleared .clear .ensures ∙ ap (λ (x : ℕ). replicate x (pos 0)) (f .future-length),
-      c .before .clear2 .ensures ∙ ap (λ (x : ℕ). replicate x (pos 0)) (f .reserves-length),
+      cleared .clear .ensures ∙ ap (λ (x : ℕ). replicate x (pos 0)) (call .fill .kept .1 .1 .1 .1 .1 .1 .0),
+      c .before .clear2 .ensures ∙ ap (λ (x : ℕ). replicate x (pos 0)) (call .fill .kept .1 .1 .1 .1 .1 .1 .1 .0),
     )
-    (with-demands _ _ _ (refused-whole f d))
+    (with-demands _ _ _ (refused-whole (filled call) d))
 
 same-length-3 : tie.Need-same-length-3
 same-length-3 c = search needs

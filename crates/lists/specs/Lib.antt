@@ -1,2 +1,0 @@
--- Lists by their values.
-pub mod Values
