@@ -1,4 +1,4 @@
-// The accident years of a triangle, projected one after another.
+// The accident years of a triangle, projected one after another. What the loop keeps is `RowsSoFar` in proofs/RowsLoop.antt.
 ghost use mathlib.Core.Path.{_≡_};
 ghost use mathlib.Core.List.{[], _∷_};
 ghost use Prim.Native.Nat.{_+_, _≤_};

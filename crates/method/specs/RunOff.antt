@@ -72,15 +72,15 @@ module _ (m : Method) where
   abbrev pub year-before : ℕ → ℕ → ℕ
   year-before i j = m .years - i + j
 
-  -- Of the first j projected years of accident year i: their figures, three a year, and the sums of their payments and of their adjustments.
+  -- Of the first so many projected years of accident year i: their figures, three a year, and the sums of their payments and of their adjustments.
   abbrev pub figures-to : ℕ → ℕ → List ℤ
-  figures-to i j = list-to j (λ j. figures (movement i (year-before i j)))
+  figures-to i years = list-to years (λ j. figures (movement i (year-before i j)))
 
   abbrev pub payments-to : ℕ → ℕ → ℤ
-  payments-to i j = sum-to j (λ j. movement i (year-before i j) .payment)
+  payments-to i years = sum-to years (λ j. movement i (year-before i j) .payment)
 
   abbrev pub adjustments-to : ℕ → ℕ → ℤ
-  adjustments-to i j = sum-to j (λ j. movement i (year-before i j) .adjustment)
+  adjustments-to i years = sum-to years (λ j. movement i (year-before i j) .adjustment)
 
   -- ---- The future list and the reserve list; both are terms of document 01
 

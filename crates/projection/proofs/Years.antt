@@ -19,7 +19,7 @@ use Rattle.method.specs.ProjectedYear.{Movement, share, next-year}
 use Rattle.method.specs.Tests.{figure-in-range}
 use Rattle.method.specs.Questions.{figures-in-range}
 use Rattle.method.proofs.QuestionFacts.{FiguresInRange, figures-in-range-true}
-use Rattle.method.proofs.Tests.{chosen}
+use Rattle.method.proofs.Tests.{tells-which}
 use Rattle.method.proofs.Projection.{next-nonneg}
 use Rattle.prepared_ratios.specs.Ratio.{greatest-size}
 use Rattle.share.specs.Share as answer
@@ -44,7 +44,7 @@ within TooLarge = false
 -- which case it is says whether all figures are within the limit
 case-is : (x : Movement) → figures-in-range x ≡ within (year-or-too-large x)
 unfolding year-or-too-large within
-case-is x = chosen within (figures-in-range x) _ _ refl refl
+case-is x = tells-which within (figures-in-range x) _ _ refl refl
 
 pub too-large-year : (x : Movement) → TooLarge ≡ year-or-too-large x → figures-in-range x ≡ false
 unfolding within

@@ -1,5 +1,5 @@
--- The development of a triangle as the code makes it, development year by development year with one column of outstandings:
--- what the inner functions ask and answer.
+-- The development of a whole triangle; and as the code makes it, development year by development year with one column of outstandings:
+-- what the functions ask and answer.
 use mathlib.Core.Path.{_≡_}
 use mathlib.Core.Bool.{true}
 use mathlib.Core.List.{List}
@@ -27,11 +27,11 @@ no-sums = record { payments = pos 0; adjustments = pos 0; exposure = pos 0 }
 
 -- ---- A whole triangle
 
--- Every place of both lists: the ratios of development year k, as its sums, at k − 1, and the last observed outstanding of accident year i
--- at i − 1; zeros beyond.
+-- Every place of both lists: the ratios of development year j + 1, as its sums, at j, and the last observed outstanding of accident year
+-- r + 1 at r; zeros beyond. It leaves one answer: law `one-development` in proofs/OneDevelopment.antt.
 pub record DevelopmentOf (t : Triangle) (ratios : List Sums) (outstandings : List ℤ) : Type 0 where
-  pub year : (k : ℕ) → k + 1 < n t → sums-of (getD ratios k no-sums) ≡ sums t (k + 1)
-  pub year-beyond : (k : ℕ) → n t ≤ k + 1 → getD ratios k no-sums ≡ no-sums
+  pub year : (j : ℕ) → j + 1 < n t → sums-of (getD ratios j no-sums) ≡ sums t (j + 1)
+  pub year-beyond : (j : ℕ) → n t ≤ j + 1 → getD ratios j no-sums ≡ no-sums
   pub outstanding : (r : ℕ) → r < n t → getD outstandings r (pos 0) ≡ R t (r + 1) (n t - r)
   pub outstanding-beyond : (r : ℕ) → n t ≤ r → getD outstandings r (pos 0) ≡ pos 0
   pub ratios-long : length ratios ≡ most-ratios

@@ -39,7 +39,7 @@ unfoldable pub occurrences : ℕ → List ℕ → ℕ
 occurrences byte [] = 0
 occurrences byte (other ∷ text) = elim (eqb other byte) [ true ↦ suc (occurrences byte text) | false ↦ occurrences byte text ]
 
--- a row that may end early does so where nothing but blank cells is left of its line
+-- a row of openings ends where nothing but blank cells is left of its line, another row only when it has its numbers
 abbrev pub ends-here : Bool → List ℕ → Bool
 ends-here true [] = true
 ends-here true (byte ∷ rest) = false
@@ -47,24 +47,23 @@ ends-here false rest = false
 
 module _ (separator : ℕ) where
   -- What is left of a line after its last number, in so many cells, from its first byte on that is neither a space nor a separator.
-  -- A row that may end early is one of openings.
   abbrev pub ended : Bool → ℕ → List ℕ → List ℕ → RowNumbers
-  ended early cells rest [] = numbers []
+  ended openings cells rest [] = numbers []
   ended true cells rest (byte ∷ others) = wrong (cells + 1) NoFurtherOpening
   ended false cells rest (byte ∷ others) = wrong (cells + 1 + occurrences separator (before (NeitherSpaceNor separator) rest)) RowEnd
 
-  -- so many numbers of what is left of a line, after so many cells and a figure; of all cells some are missing
+  -- so many numbers of what is left of a line, or at most so many openings, after so many cells and a figure; of all cells some are missing
   unfoldable pub numbers-from : ℕ → Bool → Bool → ℕ → ℕ → ℤ → List ℕ → RowNumbers
-  numbers-from missing cumulated early zero cells figure rest = ended early cells rest (from-content separator rest)
-  numbers-from missing cumulated early (suc left) cells figure rest =
-      cond (ends-here early (from-content separator rest))
+  numbers-from missing cumulated openings zero cells figure rest = ended openings cells rest (from-content separator rest)
+  numbers-from missing cumulated openings (suc left) cells figure rest =
+      cond (ends-here openings (from-content separator rest))
       (numbers [])
       (after-entry cells (entry-of (figure-of (first-cell separator rest)) (ltb cells missing) cumulated figure)
-      (λ next. numbers-from missing cumulated early left (suc cells) next (after-cell separator rest)))
+      (λ next. numbers-from missing cumulated openings left (suc cells) next (after-cell separator rest)))
 
-  -- A row of so many numbers, or at most so many where it may end early. The cells that follow are blank, and its first cells, as many as are missing, may be.
+  -- A row of so many numbers, or of at most so many openings. The cells that follow are blank, and its first cells, as many as are missing, may be.
   abbrev pub row-numbers : ℕ → Bool → Bool → ℕ → List ℕ → RowNumbers
-  row-numbers missing cumulated early count line = numbers-from missing cumulated early count 0 (pos 0) line
+  row-numbers missing cumulated openings count line = numbers-from missing cumulated openings count 0 (pos 0) line
 
   -- A row of as many openings as it has cells, but for blank ones at its end; there is room for so many.
   abbrev pub openings-numbers : ℕ → List ℕ → RowNumbers
@@ -82,12 +81,12 @@ abbrev pub entry-read : ℕ → Entry → RowRead
 entry-read cell (Amount amount figure) = read.the-variants.Right cell
 entry-read cell (Wrong fault) = read.the-variants.Wrong cell fault
 
--- a row that goes on so, after so many numbers
+-- a row after so many of its numbers, by what is left of it
 abbrev pub row-read : ℕ → RowNumbers → RowRead
 row-read count (numbers others) = read.the-variants.Right (count + length others)
 row-read count (wrong cell fault) = read.the-variants.Wrong cell fault
 
--- The answer on a row, and its numbers from the left of the list that it was read into.
+-- The answer on a row, and its numbers from the left of the list that it was read into. What stands behind them is left open.
 pub record RowReadAs (meaning : RowNumbers) (r : RowRead) (list : List ℤ) : Type 0 where
   pub read-is : r ≡ row-read 0 meaning
   pub numbers-are : (others : List ℤ) → meaning ≡ numbers others → take (length others) list ≡ others

@@ -1,4 +1,4 @@
-// A row of numbers: so many, or as many openings as it has.
+// A row of numbers: of a triangle, or of openings.
 ghost use mathlib.Core.Path.{_≡_};
 ghost use Prim.Native.Nat.{_≤_};
 ghost use lib.ListN.{length};
@@ -20,26 +20,26 @@ pub enum RowRead {
     Wrong(usize, CellFault),
 }
 
-// Reads as many numbers as the list has room for, or at most as many where the row may end early; what follows them is blank.
+// Reads a row into a list: as many numbers as it has places, or, of openings, as many as the line has and no more than that. What follows them is blank.
 // Of the row's first cells so many are missing, and may be blank.
 // Where the figures are cumulated the list holds what each adds to the one before.
-// Where a cell is wrong, what the list then holds is left open.
+// Behind the numbers, and where a cell is wrong, what the list then holds is left open.
 pub fn read_row(
     line: &[u8],
     separator: u8,
     missing: usize,
     cumulated: bool,
-    early: bool,
+    openings: bool,
     list: &mut [i64],
 ) -> RowRead
     requires { ⌜ RowInput (now line) (now list) ⌝ }
-    ensures { λ r. ⌜ RowReadAs (row-numbers separator missing cumulated early (length (now (list .entry))) (now (line .entry))) r (now (list .exit)) ⌝ }
+    ensures { λ r. ⌜ RowReadAs (row-numbers separator missing cumulated openings (length (now (list .entry))) (now (line .entry))) r (now (list .exit)) ⌝ }
 {
     let mut start = 0;
     let mut before = 0;
     let mut cells = 0;
     while cells < list.len() {
-        if ends_here(&line[start..], separator, early) {
+        if ends_here(&line[start..], separator, openings) {
             return RowRead::Right(cells);
         }
         let cell = first_cell(&line[start..], separator);
@@ -52,21 +52,21 @@ pub fn read_row(
         start += first_cell_length(&line[start..], separator);
         cells += 1;
     }
-    row_end(&line[start..], separator, early, cells)
+    row_end(&line[start..], separator, openings, cells)
 }
 
-// Whether a row that may end early does so here.
-fn ends_here(rest: &[u8], separator: u8, early: bool) -> bool
-    ensures { λ r. ⌜ r ≡ ends-here early (from-content separator (now (rest .entry))) ⌝ }
+// Whether a row of openings ends here: nothing but blank cells is left. Another row ends where the list is full.
+fn ends_here(rest: &[u8], separator: u8, openings: bool) -> bool
+    ensures { λ r. ⌜ r ≡ ends-here openings (from-content separator (now (rest .entry))) ⌝ }
 {
-    if early {
+    if openings {
         let at = find(rest, Sought::NeitherSpaceNor(separator));
         return at == rest.len();
     }
     false
 }
 
-// The answer on a row that ends with this entry, in the cell of this number.
+// The answer on a row that ends with this entry, in the cell of this number. It is asked of a wrong one only.
 fn wrong_cell(cell: usize, entry: Entry) -> RowRead
     ensures { λ r. ⌜ r ≡ entry-read cell entry ⌝ }
 {
@@ -76,15 +76,15 @@ fn wrong_cell(cell: usize, entry: Entry) -> RowRead
     }
 }
 
-// The row has ended after so many cells, and nothing but blank cells may follow.
-fn row_end(rest: &[u8], separator: u8, early: bool, cells: usize) -> RowRead
+// The list is full after so many cells. Nothing but blank cells may follow, as after the last opening.
+fn row_end(rest: &[u8], separator: u8, openings: bool, cells: usize) -> RowRead
     requires { ⌜ (cells ≤ 32) × (length (now rest) ≤ longest-text) ⌝ }
-    ensures { λ r. ⌜ r ≡ row-read cells (ended separator early cells (now (rest .entry)) (from-content separator (now (rest .entry)))) ⌝ }
+    ensures { λ r. ⌜ r ≡ row-read cells (ended separator openings cells (now (rest .entry)) (from-content separator (now (rest .entry)))) ⌝ }
 {
     if ends_here(rest, separator, true) {
         return RowRead::Right(cells);
     }
-    if early {
+    if openings {
         return RowRead::Wrong(cells + 1, CellFault::NoFurtherOpening);
     }
     let at = find(rest, Sought::NeitherSpaceNor(separator));

@@ -35,7 +35,8 @@ use Rattle.prepared_ratios.specs.Ratio.{greatest-size}
 use Rattle.prepared_years.specs.Prepared.{year-sums, year-of, ratios-of}
 use Rattle.prepared_years.proofs.PreparedYears.{sums-at-place}
 use Rattle.projection.specs.declared.Movement.{Movement}
-use Rattle.projection.specs.declared.ProjectedYear.the-variants.{Within}
+use Rattle.projection.specs.declared.ProjectedYear.{ProjectedYear}
+use Rattle.projection.specs.declared.ProjectedYear.the-variants.{Within, TooLarge}
 use Rattle.ratios.specs.Ratios.{sums-of, no-sums}
 use Rattle.projection.specs.Year.{year-or-too-large, movement-of}
 use Rattle.projection.proofs.Years.{within-is, within-small}
@@ -188,28 +189,36 @@ module _ {n : ℕ} {years : List (List ℕ)} {outstandings : List ℤ} (ok : Pro
           here = outstanding-in-range j (omega arith) passed
 
       -- the year at hand
-      pub year-is : next-year (s .outstanding .0) (sums-at (ratios-of years) (n - i + (j + 1))) ≡ movement m i (year-before m i (j + 1))
+      year-is : next-year (s .outstanding .0) (sums-at (ratios-of years) (n - i + (j + 1))) ≡ movement m i (year-before m i (j + 1))
       unfolding movement
       year-is =
           let e : last-observed m i + j ≡ n - i + (j + 1) = omega (arith, y .last) in
           ap (λ (x : ℤ). next-year x (sums-at (ratios-of years) (n - i + (j + 1)))) (outstanding-is ∙ ap (O m i) e)
 
-      module _ {x : Movement} (e : Within x ≡ year-or-too-large (next-year (s .outstanding .0) (sums-at (ratios-of years) (n - i + (j + 1))))) where
-        in-limits : figures-in-range (movement m i (year-before m i (j + 1))) ≡ true
-        in-limits = ap figures-in-range (sym year-is) ∙ within-is _ x e .1
+      -- what is answered of it
+      module _ {answer : ProjectedYear} (is : answer ≡ year-or-too-large (next-year (s .outstanding .0) (sums-at (ratios-of years) (n - i + (j + 1))))) where
+        pub too-large : answer ≡ TooLarge → TooLarge ≡ year-or-too-large (movement m i (year-before m i (j + 1)))
+        too-large told = sym told ∙ is ∙ ap year-or-too-large year-is
 
-        pub movement-is : x ≡ movement-of (movement m i (year-before m i (j + 1)))
-        movement-is = within-is _ x e .0 ∙ ap movement-of year-is
+        module _ {x : Movement} (told : answer ≡ Within x) where
+          within : Within x ≡ year-or-too-large (next-year (s .outstanding .0) (sums-at (ratios-of years) (n - i + (j + 1))))
+          within = sym told ∙ is
 
-        pub year-addable : YearAddable s x
-        year-addable = record {
-          projected = omega (arith, few);
-          paid = record { sum-size = paid-size; figure-size = within-small _ x e .payment };
-          incurred = record { sum-size = incurred-size; figure-size = within-small _ x e .adjustment };
-        }
+          in-limits : figures-in-range (movement m i (year-before m i (j + 1))) ≡ true
+          in-limits = ap figures-in-range (sym year-is) ∙ within-is _ x within .1
 
-        pub one-year-more : RowSoFar m i (with-year s x)
-        one-year-more = record {
-          asked = next-accepted (r .asked) (omega arith) (ask-yes _ 9 _ in-limits);
-          state-is = ap₂ with-year (r .state-is) movement-is ∙ year-more m i j more (y .last);
-        }
+          pub movement-is : x ≡ movement-of (movement m i (year-before m i (j + 1)))
+          movement-is = within-is _ x within .0 ∙ ap movement-of year-is
+
+          pub year-addable : YearAddable s x
+          year-addable = record {
+            projected = omega (arith, few);
+            paid = record { sum-size = paid-size; figure-size = within-small _ x within .payment };
+            incurred = record { sum-size = incurred-size; figure-size = within-small _ x within .adjustment };
+          }
+
+          pub one-year-more : RowSoFar m i (with-year s x)
+          one-year-more = record {
+            asked = next-accepted (r .asked) (omega arith) (ask-yes _ 9 _ in-limits);
+            state-is = ap₂ with-year (r .state-is) movement-is ∙ year-more m i j more (y .last);
+          }

@@ -1,5 +1,6 @@
 // An accident year's row, into a list or without one, and question 9 of all rows.
-// What the loops keep is said in proofs: `RowSoFar` in ProjectedYears.antt, `WrittenSoFar` in RowAnswers.antt, and of rows `PassedSoFar`.
+// What the loops keep is said in proofs: `RowSoFar` in ProjectedYears.antt, `WrittenSoFar` in RowAnswers.antt, and of rows
+// `PassedSoFar` in FirstRefusal.antt of the crate `method`.
 ghost use mathlib.Core.Path.{_≡_};
 ghost use mathlib.Core.List.{[], _∷_};
 ghost use Prim.Native.Nat.{_+_, _*_, _-_, _≤_, _<_};
@@ -88,6 +89,7 @@ pub fn project_row_into<'a>(
 }
 
 // The first refusal of question 9 in any accident year, if there is one, for calls that write no figure: each row is projected without a list.
+// The call that fills both lists asks it as it writes, in `project`.
 pub fn question_9<'a>(
     n: usize,
     years: &'a [[u64; NUMBERS_OF_A_YEAR]; DEVELOPMENT_YEARS],

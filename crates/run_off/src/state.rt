@@ -44,7 +44,8 @@ pub fn first_state(i: usize, outstandings: &[i64; ACCIDENT_YEARS]) -> RowState
     }
 }
 
-// The figures of the year that follows the projected ones of accident year i, or that one of them passes the limit of question 9, which is asked here.
+// The figures of the year that follows the projected ones of accident year i, or that one of them passes the limit of question 9:
+// both shares are compared with it in `rounded_share`, the outstanding in `next_year`.
 pub fn year_after(
     n: usize,
     i: usize,

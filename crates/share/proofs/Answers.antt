@@ -6,7 +6,7 @@ use borrow.Author.Tests.{leb-true, lt-leb}
 use lib.IntN.{ℤ, pos, negℤ, natAbs}
 use Rattle.method.specs.Limits.{greatest-figure}
 use Rattle.method.specs.Tests.{from-to, figure-in-range}
-use Rattle.method.proofs.Tests.{Says, differ, chosen, says-leb, says-map, says-from-to}
+use Rattle.method.proofs.Tests.{Says, differ, tells-which, says-leb, says-map, says-from-to}
 use Rattle.integers.proofs.Order.{natAbs-≤}
 use Rattle.prepared_ratios.specs.Ratio.{greatest-size}
 use Rattle.share.specs.declared.millionths.Millionths.{Millionths}
@@ -55,7 +55,7 @@ rounded TooLarge = false
 -- which case it is says whether the size is within the limit
 case-is : (x : ℤ) → figure-in-range x ≡ rounded (share-or-too-large x)
 unfolding share-or-too-large rounded
-case-is x = chosen rounded (figure-in-range x) _ _ refl refl
+case-is x = tells-which rounded (figure-in-range x) _ _ refl refl
 
 pub too-large-is : (x : ℤ) → TooLarge ≡ share-or-too-large x → figure-in-range x ≡ false
 unfolding rounded

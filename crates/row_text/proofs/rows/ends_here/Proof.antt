@@ -1,4 +1,4 @@
--- Where the row may end early, the search for a byte that is neither a space nor a separator says whether it does.
+-- Of a row of openings, the search for a byte that is neither a space nor a separator says whether it does.
 use mathlib.Core.Path.{_≡_, ap}
 use mathlib.Core.Bool.{true}
 use mathlib.Core.List.{List, [], _∷_}

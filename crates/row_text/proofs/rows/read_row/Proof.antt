@@ -19,12 +19,12 @@ use Rattle.row_text.proofs.rows.read_row.Statement.{statement}
 use Rattle.row_text.proofs.rows.read_row.Tie as tie
 
 abbrev Inv-loop : tie.InvT-loop
-Inv-loop line separator missing cumulated early list₀ start₀ before₀ cells₀ list start before cells =
-    ReadSoFar (row-numbers separator missing cumulated early (length list₀) line) line list₀ list start cells
-    (numbers-left separator missing cumulated early (length list₀) cells (toZ w64 before) (drop start line))
+Inv-loop line separator missing cumulated openings list₀ start₀ before₀ cells₀ list start before cells =
+    ReadSoFar (row-numbers separator missing cumulated openings (length list₀) line) line list₀ list start cells
+    (numbers-left separator missing cumulated openings (length list₀) cells (toZ w64 before) (drop start line))
 
 abbrev μ-loop : tie.MeasureT-loop
-μ-loop line separator missing cumulated early list₀ start₀ before₀ cells₀ list start before cells = length list₀ - cells
+μ-loop line separator missing cumulated openings list₀ start₀ before₀ cells₀ list start before cells = length list₀ - cells
 
 abbrev line : tie.At-loop Inv-loop μ-loop → List ℕ
 line turn = turn .before .before .args .line .now
@@ -34,7 +34,7 @@ separator turn = turn .before .before .args .separator
 
 -- what is left of the line, after so many cells and a figure
 abbrev left : tie.At-loop Inv-loop μ-loop → ℕ → ℤ → List ℕ → RowNumbers
-left turn = let args = turn .before .before .args in numbers-left (args .separator) (args .missing) (args .cumulated) (args .early) (length (args .list .now))
+left turn = let args = turn .before .before .args in numbers-left (args .separator) (args .missing) (args .cumulated) (args .openings) (length (args .list .now))
 
 -- the part of the line that is left
 part-is : (turn : tie.At-loop Inv-loop μ-loop) → part-from (line turn) (turn .loop .start) ≡ drop (turn .loop .start) (line turn)
@@ -69,7 +69,7 @@ more c = omega (arith, c .before .before .loop-test .taken, turn-of c .loop .inv
 
 -- whether what is left of the line ends the row
 asked : (c : tie.After-ends-here Inv-loop μ-loop) → let turn = turn-of c in
-    c .ends-here .result ≡ ends-here (turn .before .before .args .early) (from-content (separator turn) (drop (turn .loop .start) (line turn)))
+    c .ends-here .result ≡ ends-here (turn .before .before .args .openings) (from-content (separator turn) (drop (turn .loop .start) (line turn)))
 asked c = simp (part-is (turn-of c)) at (c .ends-here .ensures)
 
 same-length : tie.Need-same-length Inv-loop μ-loop
@@ -80,7 +80,7 @@ returns c =
     let turn = turn-of (c .before) in
     let args = turn .before .before .args in
     row-right (turn .loop .inv)
-    (row-ends-here (args .separator) (args .missing) (args .cumulated) (args .early) (length (args .list .now)) (turn .loop .cells) (toZ w64 (turn .loop .before))
+    (row-ends-here (args .separator) (args .missing) (args .cumulated) (args .openings) (length (args .list .now)) (turn .loop .cells) (toZ w64 (turn .loop .before))
     (drop (turn .loop .start) (line turn)) (more (c .before)) (sym (asked (c .before)) ∙ c .if1 .taken))
     refl
 
@@ -121,7 +121,7 @@ goes-on c =
     let turn = read-in c in
     let args = turn .before .before .args in
     let start = turn .loop .start in
-    number-follows (args .separator) (args .missing) (args .cumulated) (args .early) (length (args .list .now)) (turn .loop .cells) (toZ w64 (turn .loop .before))
+    number-follows (args .separator) (args .missing) (args .cumulated) (args .openings) (length (args .list .now)) (turn .loop .cells) (toZ w64 (turn .loop .before))
     (drop start (line turn)) (more (goes-on-of c)) (sym (asked (goes-on-of c)) ∙ c .before .before .before .if1 .left)
     (cell-here (separator turn) (line turn) start (c .before .first-cell .ensures)) (c .entry-in .ensures)
 
@@ -217,7 +217,7 @@ returns-3 : tie.Need-returns-3 Inv-loop μ-loop
 returns-3 c =
     let turn = c .before .before .before in
     let args = turn .before .before .args in
-    row-ended (args .separator) (args .missing) (args .cumulated) (args .early) (toZ w64 (turn .loop .before)) (drop (turn .loop .start) (line turn)) (turn .loop .inv)
+    row-ended (args .separator) (args .missing) (args .cumulated) (args .openings) (toZ w64 (turn .loop .before)) (drop (turn .loop .start) (line turn)) (turn .loop .inv)
     (omega arith) (simp (part-is turn) at (c .row-end .ensures))
 
 pub read-row-spec : {M : Type 1} → statement M

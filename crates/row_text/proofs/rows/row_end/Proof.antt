@@ -20,7 +20,7 @@ ends-here-requires c κs = search needs
 returns : tie.Need-returns
 returns c =
     let a = c .before .before .before .args in
-    nothing-follows (a .separator) (a .cells) (a .rest .now) (a .early) (from-content (a .separator) (a .rest .now)) (sym (c .before .ends-here .ensures) ∙ c .if1 .taken)
+    nothing-follows (a .separator) (a .cells) (a .rest .now) (a .openings) (from-content (a .separator) (a .rest .now)) (sym (c .before .ends-here .ensures) ∙ c .if1 .taken)
 
 add-t8 : tie.Need-add-t8
 add-t8 c = search needs

@@ -1,15 +1,10 @@
 -- Year by year: the state is the meaning's after each turn.
 use borrow.Author.Needs.{needs}
 use native.Mathlib.Omega.{arith}
-use mathlib.Core.Path.{_≡_, sym, ap, _∙_}
 use Prim.Native.Nat.{_+_, _-_}
-use Rattle.method.specs.RunOff.{movement, year-before}
-use Rattle.method.specs.ProjectedYear.{next-year}
 use Rattle.prepared_years.specs.Prepared.{ratios-of}
-use Rattle.projection.specs.declared.ProjectedYear.the-variants.{Within}
-use Rattle.projection.specs.Year.{year-or-too-large}
-use Rattle.run_off.specs.MethodRead.{sums-at, method-read}
-use Rattle.run_off.proofs.ProjectedYears.{few-years, RowSoFar, no-year, year-to-project, year-is, year-addable, one-year-more}
+use Rattle.run_off.specs.MethodRead.{method-read}
+use Rattle.run_off.proofs.ProjectedYears.{few-years, RowSoFar, no-year, year-to-project, too-large, year-addable, one-year-more}
 use Rattle.run_off.proofs.RowAnswers.{accepted-row, refused-row}
 use Rattle.run_off.proofs.rows.project_row.Statement.{statement}
 use Rattle.run_off.proofs.rows.project_row.Tie as tie
@@ -26,19 +21,6 @@ start t = t .before .before .before .before
 
 abbrev turn : tie.After-year-after Inv-loop μ-loop → tie.Then1 Inv-loop μ-loop
 turn c = c .before
-
--- the year at hand is the meaning's
-projected : (c : tie.After-year-after Inv-loop μ-loop) → let t = turn c in let a = start t .args in let s = t .before .before .loop .state in
-    let m = method-read (a .n) (ratios-of (a .years .now)) (a .outstandings .now) in
-    c .year-after .result ≡ year-or-too-large (movement m (a .i) (year-before m (a .i) (s .projected + 1)))
-projected c =
-    let t = turn c in
-    c .year-after .ensures ∙ ap year-or-too-large (year-is (start t .pre .0) (start t .pre .1) (t .before .before .loop .inv) (omega arith))
-
--- a year within the limit
-within : (c : tie.After-known-told Inv-loop μ-loop) → let t = turn (c .before .before .before) in let a = start t .args in let s = t .before .before .loop .state in
-    Within (c .before .year .given .0 .0) ≡ year-or-too-large (next-year (s .outstanding .0) (sums-at (ratios-of (a .years .now)) (a .n - a .i + (s .projected + 1))))
-within c = sym (c .before .year .given .1) ∙ c .before .before .before .year-after .ensures
 
 first-state-requires : tie.Need-first-state-requires Inv-loop μ-loop
 first-state-requires c κs =
@@ -68,20 +50,25 @@ returns : tie.Need-returns Inv-loop μ-loop
 returns c =
     let y = c .before .before .before in
     let t = turn y in
-    refused-row (t .before .before .loop .inv) (start t .pre .1 .last) (omega arith) (sym (c .before .enum-told .given .1) ∙ projected y) (c .refused-row .ensures)
+    let (ok, year) = start t .pre in
+    let r = t .before .before .loop .inv in
+    refused-row r (year .last) (omega arith) (too-large ok year r (omega arith) (y .year-after .ensures) (c .before .enum-told .given .1)) (c .refused-row .ensures)
 
 with-year-requires : tie.Need-with-year-requires Inv-loop μ-loop
 with-year-requires c κs =
-    let t = turn (c .before .before .before) in
-    year-addable (start t .pre .0) (start t .pre .1) (t .before .before .loop .inv) (omega arith) (within c)
+    let y = c .before .before .before in
+    let t = turn y in
+    year-addable (start t .pre .0) (start t .pre .1) (t .before .before .loop .inv) (omega arith) (y .year-after .ensures) (c .before .year .given .1)
 
 loop-less : tie.Need-loop-less Inv-loop μ-loop
 loop-less c = rw (c .with-year .ensures) (search needs)
 
 loop-again : tie.Need-loop-again Inv-loop μ-loop
 loop-again c =
-    let t = turn (c .before .before .before .before) in
-    rw (c .with-year .ensures) (one-year-more (start t .pre .0) (start t .pre .1) (t .before .before .loop .inv) (omega arith) (within (c .before)))
+    let y = c .before .before .before .before in
+    let t = turn y in
+    rw (c .with-year .ensures)
+    (one-year-more (start t .pre .0) (start t .pre .1) (t .before .before .loop .inv) (omega arith) (y .year-after .ensures) (c .before .before .year .given .1))
 
 accepted-row-requires : tie.Need-accepted-row-requires Inv-loop μ-loop
 accepted-row-requires c κs = search needs

@@ -1,16 +1,12 @@
 -- Year by year: the state is the meaning's after each turn, and the figures of each year are written.
 use borrow.Author.Needs.{needs}
 use native.Mathlib.Omega.{arith}
-use mathlib.Core.Path.{_≡_, refl, sym, ap, _∙_}
+use mathlib.Core.Path.{refl, ap}
 use Prim.Native.Nat.{_+_, _*_, _-_, _≤_}
 use lib.ListN.{length}
-use Rattle.method.specs.RunOff.{movement, year-before}
-use Rattle.method.specs.ProjectedYear.{next-year}
 use Rattle.prepared_years.specs.Prepared.{ratios-of}
-use Rattle.projection.specs.declared.ProjectedYear.the-variants.{Within}
-use Rattle.projection.specs.Year.{year-or-too-large}
-use Rattle.run_off.specs.MethodRead.{sums-at, method-read}
-use Rattle.run_off.proofs.ProjectedYears.{few-years, no-year, year-to-project, year-is, movement-is, year-addable, one-year-more}
+use Rattle.run_off.specs.MethodRead.{method-read}
+use Rattle.run_off.proofs.ProjectedYears.{few-years, no-year, year-to-project, too-large, movement-is, year-addable, one-year-more}
 use Rattle.run_off.proofs.RowAnswers.{accepted-row, all-written, refused-row, written-before, WrittenSoFar, none-written, same-length as list-length, room, one-more-written, written}
 use Rattle.run_off.proofs.rows.project_row_into.Statement.{statement}
 use Rattle.run_off.proofs.rows.project_row_into.Tie as tie
@@ -27,19 +23,6 @@ start t = t .before .before .before .before
 
 abbrev turn : tie.After-year-after Inv-loop μ-loop → tie.Then1 Inv-loop μ-loop
 turn c = c .before
-
--- the year at hand is the meaning's
-projected : (c : tie.After-year-after Inv-loop μ-loop) → let t = turn c in let a = start t .args in let s = t .before .before .loop .state in
-    let m = method-read (a .n) (ratios-of (a .years .now)) (a .outstandings .now) in
-    c .year-after .result ≡ year-or-too-large (movement m (a .i) (year-before m (a .i) (s .projected + 1)))
-projected c =
-    let t = turn c in
-    c .year-after .ensures ∙ ap year-or-too-large (year-is (start t .pre .0 .0) (start t .pre .0 .1) (t .before .before .loop .inv .row) (omega arith))
-
--- a year within the limit
-within : (c : tie.After-known-told Inv-loop μ-loop) → let t = turn (c .before .before .before) in let a = start t .args in let s = t .before .before .loop .state in
-    Within (c .before .year .given .0 .0) ≡ year-or-too-large (next-year (s .outstanding .0) (sums-at (ratios-of (a .years .now)) (a .n - a .i + (s .projected + 1))))
-within c = sym (c .before .year .given .1) ∙ c .before .before .before .year-after .ensures
 
 first-state-requires : tie.Need-first-state-requires Inv-loop μ-loop
 first-state-requires c κs =
@@ -72,10 +55,10 @@ returns : tie.Need-returns Inv-loop μ-loop
 returns c =
     let y = c .before .before .before in
     let t = turn y in
+    let (ok, year) = start t .pre .0 in
     let r = t .before .before .loop .inv .row in
-    let last = start t .pre .0 .1 .last in
-    let e = sym (c .before .enum-told .given .1) ∙ projected y in
-    written (t .before .before .loop .inv) (refused-row r last (omega arith) e (c .refused-row .ensures)) (written-before r last (omega arith) e)
+    let e = too-large ok year r (omega arith) (y .year-after .ensures) (c .before .enum-told .given .1) in
+    written (t .before .before .loop .inv) (refused-row r (year .last) (omega arith) e (c .refused-row .ensures)) (written-before r (year .last) (omega arith) e)
 
 -- the place of the year's figures is inside the list
 place-inside : (c : tie.After-struct-known2 Inv-loop μ-loop) → let t = turn (c .before .before .before .before .before) in
@@ -93,20 +76,24 @@ write-movement-requires c κs = omega (arith, place-inside c)
 
 with-year-requires : tie.Need-with-year-requires Inv-loop μ-loop
 with-year-requires c κs =
-    let t = turn (c .before .before .before .before .before .before .before) in
-    year-addable (start t .pre .0 .0) (start t .pre .0 .1) (t .before .before .loop .inv .row) (omega arith) (within (c .before .before .before .before))
+    let k = c .before .before .before .before .before in
+    let y = k .before .before in
+    let t = turn y in
+    year-addable (start t .pre .0 .0) (start t .pre .0 .1) (t .before .before .loop .inv .row) (omega arith) (y .year-after .ensures) (k .year .given .1)
 
 loop-less : tie.Need-loop-less Inv-loop μ-loop
 loop-less c = rw (c .with-year .ensures) (search needs)
 
 loop-again : tie.Need-loop-again Inv-loop μ-loop
 loop-again c =
-    let k = c .before .before .before .before .before in
-    let t = turn (k .before .before .before) in
+    let k = c .before .before .before .before .before .before in
+    let y = k .before .before in
+    let t = turn y in
     let (ok, year) = start t .pre .0 in
     let w = t .before .before .loop .inv in
+    let told = k .year .given .1 in
     rw (c .with-year .ensures, c .before .before .write-movement .ensures)
-    (one-more-written w (movement-is ok year (w .row) (omega arith) (within k)) (one-year-more ok year (w .row) (omega arith) (within k)) refl)
+    (one-more-written w (movement-is ok year (w .row) (omega arith) (y .year-after .ensures) told) (one-year-more ok year (w .row) (omega arith) (y .year-after .ensures) told) refl)
 
 accepted-row-requires : tie.Need-accepted-row-requires Inv-loop μ-loop
 accepted-row-requires c κs = search needs
