@@ -15,7 +15,7 @@ use Rattle.method.specs.Demand3.{Demand-3}
 use Rattle.method.proofs.FirstRefusal.{not-both, stopped}
 use Rattle.method.proofs.WholeAnswers.{filled-verdict, accepted-answer, refused-answer}
 use Rattle.method.proofs.Demands.{demand-1-of-answer, demand-2-of-answer, demand-3-of-answer}
-use Rattle.questions.specs.declared.lengths.AnswerLists.the-variants.{FutureAndReserves}
+use Rattle.list_lengths.specs.declared.AnswerLists.the-variants.{FutureAndReserves}
 use Rattle.verdicts.specs.Verdicts.{verdict-of}
 use Rattle.triangle.specs.declared.reading.Reading.{Reading}
 use Rattle.triangle.specs.Reading.{ReadingOf}

@@ -1,5 +1,5 @@
 -- Development years prepared one after another, and the sums that they were prepared from.
-use mathlib.Core.Path.{_≡_, ap, _∙_}
+use mathlib.Core.Path.{_≡_, sym, ap, _∙_}
 use mathlib.Core.List.{List, []}
 use Prim.Native.Nat.{ℕ, _+_, _-_, _≤_, _<_, _^_}
 use native.Mathlib.Omega.{arith}
@@ -20,7 +20,7 @@ use Rattle.prepared_ratios.specs.Ratio.{Ready, part-of}
 use Rattle.prepared_ratios.proofs.Signs.{unsigned}
 use Rattle.prepared_ratios.proofs.Exposures.{exposure-is}
 use Rattle.ratios.specs.declared.Sums.{Sums}
-use Rattle.ratios.specs.Ratios.{sums-of, no-sums}
+use Rattle.ratios.specs.Ratios.{sums-of, no-sums, sums-at}
 use Rattle.prepared_years.specs.Prepared.{year-sums, year-of, ratios-of, PreparedFrom, YearsPrepared}
 
 -- ---- One year
@@ -57,6 +57,12 @@ raised-< x h = omega (arith, natAbs-parts (pos x -ℤ pos greatest-sum), parts (
 -- the sums at a place
 pub sums-at-place : (years : List (List ℕ)) (j : ℕ) → getD (ratios-of years) j no-sums ≡ year-sums (year-of (getD years j []))
 sums-at-place years j = List·getD-map (λ numbers. year-sums (year-of numbers)) years j []
+
+-- the year at a place was prepared from the sums of the development year that stands there
+pub prepared-from : (years : List (List ℕ)) (j k : ℕ) → j + 1 ≡ k → sums-of (year-sums (year-of (getD years j []))) ≡ sums-at (ratios-of years) k
+prepared-from years j k e =
+    let p : j ≡ k - 1 = omega arith in
+    ap sums-of (sym (sums-at-place years j)) ∙ ap (λ (x : ℕ). sums-of (getD (ratios-of years) x no-sums)) p
 
 -- the first j places hold prepared years, and the others what they held
 pub record PreparedTo (n : ℕ) (ratios : List Sums) (before after : List (List ℕ)) (j : ℕ) : Type 0 where

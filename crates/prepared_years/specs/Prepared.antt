@@ -2,7 +2,7 @@
 use mathlib.Core.Path.{_≡_}
 use mathlib.Core.List.{List, [], map}
 use Prim.Native.Nat.{ℕ, _+_, _≤_, _<_}
-use lib.IntN.{pos, natAbs, _-ℤ_}
+use lib.IntN.{pos, _-ℤ_}
 use lib.ListN.{length, getD}
 use Rattle.method.specs.Limits.{most-accident-years}
 use Rattle.method.specs.SumLimits.{greatest-sum, SumsInRange}
@@ -37,10 +37,6 @@ ratio-of-numbers numbers at = record {
   fraction = getD numbers (at + 2) 0;
   reach = getD numbers (at + 3) 0;
 }
-
-pub record RatioKept (numbers : List ℕ) (at : ℕ) : Type 0 where
-  pub inside : at + 3 < numbers-of-a-year
-  pub size : natAbs (ratio-of-numbers numbers at .quotient) ≤ greatest-sum
 
 abbrev pub year-of : List ℕ → PreparedYear
 year-of numbers = record { payments = ratio-of-numbers numbers 0; adjustments = ratio-of-numbers numbers 4; exposure = getD numbers 8 0 }

@@ -1,12 +1,13 @@
 // The development years of a triangle, prepared for any number of shares: what divides is done here, once a call.
 ghost use mathlib.Core.Path.{_≡_};
 ghost use mathlib.Core.List.{[]};
-ghost use Prim.Native.Nat.{_<_};
+ghost use Prim.Native.Nat.{_+_, _≤_, _<_};
+ghost use lib.IntN.{natAbs};
 ghost use lib.ListN.{length, getD};
 ghost use Rattle.method.specs.Limits.{most-ratios};
-ghost use Rattle.method.specs.SumLimits.{SumsInRange};
+ghost use Rattle.method.specs.SumLimits.{greatest-sum, SumsInRange};
 ghost use Rattle.ratios.specs.Ratios.{sums-of};
-ghost use Rattle.prepared_years.specs.Prepared.{YearReady, year-sums, ratio-of-numbers, RatioKept, year-of, RatiosInRange, YearsPrepared};
+ghost use Rattle.prepared_years.specs.Prepared.{YearReady, year-sums, numbers-of-a-year, ratio-of-numbers, year-of, RatiosInRange, YearsPrepared};
 use prepared_ratios::Ratio;
 use prepared_ratios::ratio_of;
 use prepared_ratios::reciprocal_of;
@@ -58,7 +59,7 @@ pub fn year_at(years: &[[u64; NUMBERS_OF_A_YEAR]; DEVELOPMENT_YEARS], place: usi
 
 // A ratio, by its four numbers from a place on.
 fn ratio_at(numbers: [u64; NUMBERS_OF_A_YEAR], first: usize) -> Ratio
-    requires { ⌜ RatioKept numbers first ⌝ }
+    requires { ⌜ (first + 3 < numbers-of-a-year) × (natAbs (ratio-of-numbers numbers first .quotient) ≤ greatest-sum) ⌝ }
     ensures { λ r. ⌜ r ≡ ratio-of-numbers numbers first ⌝ }
 {
     Ratio {

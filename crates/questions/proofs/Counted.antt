@@ -12,10 +12,10 @@ use Rattle.method.specs.Demand1.{InputLengthsRight}
 use Rattle.method.proofs.Tests.{and-true}
 use Rattle.method.proofs.FirstRefusal.{then-accepted, then-assoc}
 use Rattle.method.proofs.QuestionFacts.{YearsInRange, CutInRange, years-accepted, cut-accepted, lengths-accepted, says-input-lengths}
-use Rattle.questions.specs.declared.lengths.AnswerLists.{AnswerLists}
-use Rattle.questions.specs.declared.lengths.AnswerLists.the-variants.{NotGiven, FutureAndReserves}
-use Rattle.questions.specs.declared.lengths.ListLengths.{ListLengths}
-use Rattle.questions.specs.Lengths.{answers-right, list-lengths-right, questions-1-to-3}
+use Rattle.list_lengths.specs.declared.AnswerLists.{AnswerLists}
+use Rattle.list_lengths.specs.declared.AnswerLists.the-variants.{NotGiven, FutureAndReserves}
+use Rattle.list_lengths.specs.declared.ListLengths.{ListLengths}
+use Rattle.list_lengths.specs.Lengths.{answers-right, list-lengths-right, questions-1-to-3}
 use Rattle.questions.specs.Inputs.{triangle-of, counted, lists-right, lengths-of}
 
 -- ---- Question 3 of a triangle's lists

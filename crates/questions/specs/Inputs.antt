@@ -7,9 +7,9 @@ use lib.ListN.{length}
 use Rattle.method.specs.Triangle.{Triangle}
 use Rattle.method.specs.Verdicts.{Verdict, _then_}
 use Rattle.method.specs.Questions.{input-lengths-right, lengths-right, question-5, question-6, question-7}
-use Rattle.questions.specs.declared.lengths.AnswerLists.{AnswerLists}
-use Rattle.questions.specs.declared.lengths.AnswerLists.the-variants.{NotGiven, FutureAndReserves}
-use Rattle.questions.specs.declared.lengths.ListLengths.{ListLengths}
+use Rattle.list_lengths.specs.declared.AnswerLists.{AnswerLists}
+use Rattle.list_lengths.specs.declared.AnswerLists.the-variants.{NotGiven, FutureAndReserves}
+use Rattle.list_lengths.specs.declared.ListLengths.{ListLengths}
 
 abbrev pub triangle-of : ℤ → ℤ → List ℤ → List ℤ → List ℤ → List ℤ → Triangle
 triangle-of years cut payments adjustments weights openings = record {

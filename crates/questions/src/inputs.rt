@@ -3,11 +3,11 @@ ghost use mathlib.Core.Path.{_≡_};
 ghost use Rattle.method.specs.Questions.{input-questions};
 ghost use Rattle.verdicts.specs.Verdicts.{verdict-of};
 ghost use Rattle.questions.specs.Inputs.{triangle-of, lists-right};
-use crate::lengths::AnswerLists;
-use crate::lengths::ListLengths;
-use crate::lengths::questions_1_to_3;
 use crate::list_questions::question_4;
 use crate::list_questions::questions_5_to_7;
+use list_lengths::AnswerLists;
+use list_lengths::ListLengths;
+use list_lengths::questions_1_to_3;
 use verdicts::verdict::Verdict;
 
 // The first refusal of questions 1 to 7, if there is one.

@@ -25,6 +25,10 @@ sums-of s = record { P = s .payments; Q = s .adjustments; D = s .exposure }
 abbrev pub no-sums : Sums
 no-sums = record { payments = pos 0; adjustments = pos 0; exposure = pos 0 }
 
+-- the sums of development year k, which stand at k − 1
+abbrev pub sums-at : List Sums → ℕ → meaning.Sums
+sums-at ratios k = sums-of (getD ratios (k - 1) no-sums)
+
 -- ---- A whole triangle
 
 -- Every place of both lists: the ratios of development year j + 1, as its sums, at j, and the last observed outstanding of accident year

@@ -5,7 +5,7 @@ use crate::completed_tables::print_completed;
 use crate::printing::print_empty_line;
 use crate::printing::print_line;
 use crate::printing::print_two;
-use questions::lengths::AnswerLists;
+use list_lengths::AnswerLists;
 use ratios::Sums;
 use refusals::counts::count_of;
 use reserve_table::reserve_rows::reserves_column;

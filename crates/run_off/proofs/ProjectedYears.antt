@@ -7,7 +7,7 @@ use native.Mathlib.Nat.{add-zero}
 use native.Mathlib.Numerals.{add-one}
 use native.Mathlib.Omega.{arith}
 use lib.IntN.{ℤ, pos, _+ℤ_, natAbs, +ℤ-idr}
-use lib.ListN.{getD, List·getD-append}
+use lib.ListN.{List·getD-append}
 use lib.Signed.{_≤ℤ_, leZ-yes}
 use mir.Syntax.{w64}
 use mir.Val.{Fits}
@@ -32,24 +32,18 @@ use Rattle.method.proofs.Projection.{next-nonneg}
 use Rattle.method.proofs.RunOff.{O-observed, O-projected}
 use Rattle.share.specs.declared.millionths.Millionths.{Millionths}
 use Rattle.prepared_ratios.specs.Ratio.{greatest-size}
-use Rattle.prepared_years.specs.Prepared.{year-sums, year-of, ratios-of}
-use Rattle.prepared_years.proofs.PreparedYears.{sums-at-place}
+use Rattle.ratios.specs.Ratios.{sums-at}
+use Rattle.prepared_years.specs.Prepared.{ratios-of}
 use Rattle.projection.specs.declared.Movement.{Movement}
 use Rattle.projection.specs.declared.ProjectedYear.{ProjectedYear}
 use Rattle.projection.specs.declared.ProjectedYear.the-variants.{Within, TooLarge}
-use Rattle.ratios.specs.Ratios.{sums-of, no-sums}
 use Rattle.projection.specs.Year.{year-or-too-large, movement-of}
 use Rattle.projection.proofs.Years.{within-is, within-small}
-use Rattle.run_off.specs.declared.state.RowState.{RowState}
-use Rattle.run_off.specs.MethodRead.{sums-at, method-read, Projectable}
-use Rattle.run_off.proofs.States.{millionths, same-state}
-use Rattle.run_off.specs.Rows.{state-before, first-of, with-year, YearAddable, YearToProject, row-state}
-
--- the year at a place was prepared from the sums of the development year that stands there
-pub prepared-from : (years : List (List ℕ)) (j k : ℕ) → j + 1 ≡ k → sums-of (year-sums (year-of (getD years j []))) ≡ sums-at (ratios-of years) k
-prepared-from years j k e =
-    let p : j ≡ k - 1 = omega arith in
-    ap sums-of (sym (sums-at-place years j)) ∙ ap (λ (x : ℕ). sums-of (getD (ratios-of years) x no-sums)) p
+use Rattle.row_states.specs.declared.RowState.{RowState}
+use Rattle.row_states.specs.States.{state-before, first-of, with-year, YearAddable, YearToProject}
+use Rattle.row_states.proofs.States.{millionths, same-state}
+use Rattle.run_off.specs.MethodRead.{method-read, Projectable}
+use Rattle.run_off.specs.Rows.{row-state}
 
 -- the years of an accident year fit 64 bits
 pub few-years : {n i j : ℕ} → n ≤ most-accident-years → i ≤ n → j ≤ i - 1 → Fits w64 (j + 1)

@@ -19,17 +19,17 @@ use Rattle.method.proofs.Readings.{R-in-range}
 use Rattle.method.proofs.SameRows.{SameRow, same-question-9, same-future, same-reserves}
 use Rattle.method.proofs.SumBounds.{sums-in-range}
 use Rattle.verdicts.specs.Verdicts.{verdict-of}
-use Rattle.questions.specs.declared.lengths.AnswerLists.{AnswerLists}
-use Rattle.questions.specs.declared.lengths.AnswerLists.the-variants.{FutureAndReserves}
+use Rattle.list_lengths.specs.declared.AnswerLists.{AnswerLists}
+use Rattle.list_lengths.specs.declared.AnswerLists.the-variants.{FutureAndReserves}
 use Rattle.questions.specs.Inputs.{lists-right}
 use Rattle.questions.proofs.Counted.{lists-have-lengths}
 use Rattle.ratios.specs.declared.Sums.{Sums}
-use Rattle.ratios.specs.Ratios.{sums-of, DevelopmentOf}
+use Rattle.ratios.specs.Ratios.{sums-of, sums-at, DevelopmentOf}
 use Rattle.triangle.specs.declared.reading.Reading.{Reading}
 use Rattle.triangle.specs.Reading.{DevelopmentIs, ReadingOf}
 use Rattle.prepared_years.specs.Prepared.{RatiosInRange, YearsPrepared, ratios-of}
 use Rattle.prepared_years.proofs.PreparedYears.{sums-at-place}
-use Rattle.run_off.specs.MethodRead.{sums-at, method-read, Projectable}
+use Rattle.run_off.specs.MethodRead.{method-read, Projectable}
 
 -- ---- What questions 1 to 8 leave of what was read
 

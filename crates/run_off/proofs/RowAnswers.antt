@@ -21,7 +21,7 @@ use Rattle.projection.specs.declared.Movement.{Movement}
 use Rattle.projection.specs.declared.ProjectedYear.the-variants.{TooLarge}
 use Rattle.projection.specs.Year.{year-or-too-large, movement-of}
 use Rattle.projection.proofs.Years.{too-large-year}
-use Rattle.run_off.specs.declared.state.RowState.{RowState}
+use Rattle.row_states.specs.declared.RowState.{RowState}
 use Rattle.run_off.specs.declared.rows.ProjectedRow.{ProjectedRow}
 use Rattle.run_off.specs.Rows.{row-state, first-payment, figures-answered, row-figures, RowProjected, years-written, RowWritten}
 use Rattle.run_off.proofs.ProjectedYears.{RowSoFar}

@@ -1,22 +1,17 @@
 -- What was read off a triangle is a method too: the sums of its development years, and its last observed outstandings.
 use mathlib.Core.List.{List, []}
-use Prim.Native.Nat.{ℕ, _+_, _-_, _≤_, _<_}
+use Prim.Native.Nat.{ℕ, _+_, _≤_, _<_}
 use lib.IntN.{ℤ, pos}
 use lib.ListN.{getD}
 use lib.Signed.{_≤ℤ_}
 use Rattle.method.specs.Limits.{most-accident-years, greatest-outstanding}
 use Rattle.method.specs.Triangle.{entry}
-use Rattle.method.specs.Outstandings as meaning
 use Rattle.method.specs.ProjectedYear.{next-year, unrounded-year, allowed-year}
 use Rattle.method.specs.RunOff.{Method}
 use Rattle.method.specs.SumLimits.{SumsInRange}
 use Rattle.ratios.specs.declared.Sums.{Sums}
-use Rattle.ratios.specs.Ratios.{sums-of, no-sums}
+use Rattle.ratios.specs.Ratios.{sums-at}
 use Rattle.prepared_years.specs.Prepared.{YearReady, year-of, ratios-of}
-
--- the sums of development year k, which stand at k − 1
-abbrev pub sums-at : List Sums → ℕ → meaning.Sums
-sums-at ratios k = sums-of (getD ratios (k - 1) no-sums)
 
 -- The last observed outstanding of accident year i stands at i − 1. No other observed one is kept, and a projected year asks for none.
 -- Where the lists are those of a triangle, its rows are the triangle's: law `rows-as-in-the-triangle` in proofs/ReadTriangles.antt.

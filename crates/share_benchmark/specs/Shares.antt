@@ -27,9 +27,6 @@ share-number part exposure outstanding = elim (from-to (pos 0) greatest-figure o
   | false ↦ negℤ (pos 9_223_372_036_854_775_808)
 ]
 
-abbrev pub shares-from : ℤ → ℤ → List ℤ → List ℤ
-shares-from part exposure figures = map (share-number part exposure) figures
-
 -- the parts and exposures that a ratio is prepared from
 abbrev pub in-limits : ℤ → ℤ → Bool
 in-limits part exposure = from-to (negℤ (pos greatest-sum)) (pos greatest-sum) part && from-to (pos 1) (pos greatest-sum) exposure
@@ -38,4 +35,4 @@ unfoldable pub shares-answer : ℤ → ℤ → ℤ
 shares-answer part exposure = elim (in-limits part exposure) [ true ↦ pos 1 | false ↦ pos 0 ]
 
 unfoldable pub shares-of : ℤ → ℤ → List ℤ → List ℤ
-shares-of part exposure figures = elim (in-limits part exposure) [ true ↦ shares-from part exposure figures | false ↦ figures ]
+shares-of part exposure figures = elim (in-limits part exposure) [ true ↦ map (share-number part exposure) figures | false ↦ figures ]

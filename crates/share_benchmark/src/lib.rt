@@ -1,11 +1,12 @@
 // The share and the halves of products, as a benchmark links them.
 ghost use mathlib.Core.Path.{_≡_};
+ghost use mathlib.Core.List.{map};
 ghost use Prim.Native.Nat.{_*_, _/_, _%_, _^_};
 ghost use lib.IntN.{pos};
 ghost use Rattle.method.specs.ProjectedYear.{share};
 ghost use Rattle.prepared_ratios.specs.Ratio.{Ready, part-of};
 ghost use Rattle.share.specs.Share.{ShareInput, share-or-too-large};
-ghost use Rattle.share_benchmark.specs.Shares.{ratio-by-numbers, as-number, share-number, shares-from, shares-answer, shares-of};
+ghost use Rattle.share_benchmark.specs.Shares.{ratio-by-numbers, as-number, share-number, shares-answer, shares-of};
 use prepared_ratios::Ratio;
 use prepared_ratios::ratio_of;
 use prepared_ratios::reciprocal_of;
@@ -78,7 +79,7 @@ pub extern "C" fn juniperprow_shares(part: i64, exposure: i64, figures: &mut [i6
 
 fn take_shares(ratio: Ratio, exposure: u64, figures: &mut [i64])
     requires { ⌜ Ready ratio exposure ⌝ }
-    ensures { λ _. ⌜ now (figures .exit) ≡ shares-from (part-of ratio exposure) (pos exposure) (now (figures .entry)) ⌝ }
+    ensures { λ _. ⌜ now (figures .exit) ≡ map (share-number (part-of ratio exposure) (pos exposure)) (now (figures .entry)) ⌝ }
 {
     let count = figures.len();
     let mut j = 0;

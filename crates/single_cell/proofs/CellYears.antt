@@ -13,12 +13,13 @@ use Rattle.method.specs.RunOff.{Method, O, movement, last-observed, year-before
 use Rattle.method.specs.Questions.{figures-in-range, question-9-of-year}
 use Rattle.method.proofs.FirstRefusal.{ask-accepted, first-accepted}
 use Rattle.method.proofs.RunOff.{O-observed, O-projected}
+use Rattle.ratios.specs.Ratios.{sums-at}
 use Rattle.prepared_years.specs.Prepared.{ratios-of}
 use Rattle.projection.specs.declared.Movement.{Movement}
 use Rattle.projection.specs.declared.ProjectedYear.the-variants.{Within, TooLarge}
 use Rattle.projection.specs.Year.{ProjectedYearInput, year-or-too-large, movement-of}
 use Rattle.projection.proofs.Years.{within-is, too-large-year}
-use Rattle.run_off.specs.MethodRead.{sums-at, method-read}
+use Rattle.run_off.specs.MethodRead.{method-read}
 use Rattle.run_off.proofs.ProjectedYears.{InRange, outstanding-in-range}
 use Rattle.single_cell.specs.Cells.{CellYear}
 

@@ -11,7 +11,7 @@ use Rattle.method.proofs.QuestionFacts as facts
 use Rattle.method.proofs.QuestionFacts.{Observed, observed-triangle}
 use Rattle.verdicts.specs.declared.verdict.Verdict as code
 use Rattle.verdicts.specs.Verdicts.{verdict-of}
-use Rattle.questions.specs.declared.lengths.AnswerLists.{AnswerLists}
+use Rattle.list_lengths.specs.declared.AnswerLists.{AnswerLists}
 use Rattle.questions.specs.Inputs.{triangle-of, counted, lists-right}
 use Rattle.ratios.specs.declared.Development.{Development}
 use Rattle.ratios.specs.Ratios.{DevelopmentOf, Readable, DevelopmentRead}

@@ -10,7 +10,7 @@ use Rattle.method.specs.Triangle.{Triangle}
 use Rattle.method.specs.Verdicts.{Verdict, accepted, refused, at, ask, first-to}
 use Rattle.method.specs.Questions.{observed-questions}
 use Rattle.verdicts.specs.Verdicts.{verdict-of}
-use Rattle.questions.specs.declared.lengths.AnswerLists.{AnswerLists}
+use Rattle.list_lengths.specs.declared.AnswerLists.{AnswerLists}
 use Rattle.questions.specs.Inputs.{lists-right}
 use Rattle.ratios.specs.declared.Development.{Development}
 use Rattle.ratios.specs.declared.Sums.{Sums}

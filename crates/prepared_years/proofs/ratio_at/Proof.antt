@@ -19,10 +19,10 @@ array-read-t7 : tie.Need-array-read-t7
 array-read-t7 c = search needs
 
 raised-small : (c : tie.Start) → getD (c .args .t1) (c .args .first) 0 < 2 ^ 63
-raised-small c = raised-< (getD (c .args .t1) (c .args .first) 0) (c .pre .size)
+raised-small c = raised-< (getD (c .args .t1) (c .args .first) 0) (c .pre .1)
 
 lowered-fits : (c : tie.Start) → SFits w64 (pos (getD (c .args .t1) (c .args .first) 0) -ℤ pos greatest-sum)
-lowered-fits c = sum-fits (pos (getD (c .args .t1) (c .args .first) 0) -ℤ pos greatest-sum) (c .pre .size)
+lowered-fits c = sum-fits (pos (getD (c .args .t1) (c .args .first) 0) -ℤ pos greatest-sum) (c .pre .1)
 
 cast-t8 : tie.Need-cast-t8
 cast-t8 c = record { sfits = raised-small c }

@@ -7,13 +7,13 @@ use borrow.Fn.Kinds.{In}
 use borrow.Fn.PlainCycle.{Measures, is, falls, and}
 use Rattle.method.specs.RunOff.{O}
 use Rattle.method.specs.ProjectedYear.{next-year}
-use Rattle.ratios.specs.Ratios.{sums-of}
+use Rattle.ratios.specs.Ratios.{sums-of, sums-at}
 use Rattle.prepared_years.specs.Prepared.{year-sums, ratios-of}
+use Rattle.prepared_years.proofs.PreparedYears.{prepared-from}
 use Rattle.projection.specs.declared.Movement.{Movement}
 use Rattle.projection.specs.Year.{year-or-too-large}
-use Rattle.run_off.specs.declared.state.RowState.{RowState}
-use Rattle.run_off.specs.MethodRead.{sums-at, method-read}
-use Rattle.run_off.proofs.ProjectedYears.{prepared-from}
+use Rattle.row_states.specs.declared.RowState.{RowState}
+use Rattle.run_off.specs.MethodRead.{method-read}
 use Rattle.single_cell.proofs.CellYears.{last-observed-year, later-year, in-range, year-before-it, outstanding-from-movement, year-input, never-too-large, movement-answered}
 use Rattle.single_cell.proofs.movement.Reads as movement
 use Rattle.single_cell.proofs.movement.Kinds as movement-kinds
@@ -23,7 +23,7 @@ use Rattle.single_cell.proofs.outstanding.Kinds as outstanding-kinds
 use Rattle.single_cell.proofs.+movement+outstanding.Lts-outstanding as outstanding-lts
 use Rattle.prepared_years.proofs.year_at.Reads as year-at-reads
 use Rattle.projection.proofs.next_year.Reads as next-year-reads
-use Rattle.run_off.proofs.state.first_state.Reads as first-state-reads
+use Rattle.row_states.proofs.first_state.Reads as first-state-reads
 use Rattle.single_cell.proofs.+movement+outstanding.{statement}
 use Rattle.single_cell.proofs.+movement+outstanding.Tie.{close}
 

@@ -15,7 +15,7 @@ use Rattle.method.proofs.FirstRefusal.{ask-accepted, stopped, went-on}
 use Rattle.method.proofs.QuestionFacts.{YearsInRange, UnseenCell, unseen-cell}
 use Rattle.verdicts.specs.Verdicts.{verdict-of}
 use Rattle.verdicts.proofs.Counts.{count-fits}
-use Rattle.questions.specs.declared.lengths.AnswerLists.the-variants.{NotGiven}
+use Rattle.list_lengths.specs.declared.AnswerLists.the-variants.{NotGiven}
 use Rattle.questions.specs.Inputs.{triangle-of}
 use Rattle.triangle.specs.Reading.{ReadingOf}
 use Rattle.prepared_years.specs.Prepared.{YearsPrepared, ratios-of}

@@ -8,7 +8,7 @@ use Rattle.method.specs.Triangle.{Triangle}
 use Rattle.method.specs.Verdicts.{accepted}
 use Rattle.verdicts.specs.Verdicts.{verdict-of}
 use Rattle.verdicts.proofs.Counts.{count-fits}
-use Rattle.questions.specs.declared.lengths.AnswerLists.the-variants.{FutureAndReserves}
+use Rattle.list_lengths.specs.declared.AnswerLists.the-variants.{FutureAndReserves}
 use Rattle.questions.specs.Inputs.{triangle-of}
 use Rattle.triangle.specs.Reading.{ReadingOf}
 use Rattle.prepared_years.specs.Prepared.{YearsPrepared}

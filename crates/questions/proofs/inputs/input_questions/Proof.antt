@@ -13,7 +13,7 @@ use Rattle.method.proofs.FirstRefusal.{stopped, went-on}
 use Rattle.method.proofs.QuestionFacts.{says-input-lengths}
 use Rattle.verdicts.specs.Verdicts.{verdict-of}
 use Rattle.verdicts.proofs.Counts.{count-fits}
-use Rattle.questions.specs.Lengths.{questions-1-to-3}
+use Rattle.list_lengths.specs.Lengths.{questions-1-to-3}
 use Rattle.questions.specs.Inputs.{triangle-of, lengths-of, questions-5-to-7}
 use Rattle.questions.proofs.Counted.{input-questions-is, years-right, cut-right, inputs-measured}
 use Rattle.questions.proofs.inputs.input_questions.Statement.{statement}
