@@ -35,12 +35,12 @@ count-within : (number : ℕ) (meaning : RowNumbers) {r : RowRead} {part : List 
 count-within number (row.numbers others) answer = rw (right-is answer) (few answer)
 count-within number (row.wrong cell fault) answer = rw (answer .read-is) (omega arith)
 
-pub row-read : (number : ℕ) (meaning : RowNumbers) {r : RowRead} {part : List ℤ} (after : List ℤ) → RowReadAs meaning r part
+pub row-at-line : (number : ℕ) (meaning : RowNumbers) {r : RowRead} {part : List ℤ} (after : List ℤ) → RowReadAs meaning r part
     → BlockReadAs (at-line number meaning) (read-at number r) (part ++ after)
-row-read number (row.numbers others) {r} {part} after answer =
+row-at-line number (row.numbers others) {r} {part} after answer =
     let numbers-are = take-append-le (length others) part after (few answer) ∙ answer .numbers-are others refl in
     rw (right-is answer) (numbers-read (part ++ after) (ap numbers (sym numbers-are)) refl (omega (arith, few answer, length-append part after)))
-row-read number (row.wrong cell fault) {r} {part} after answer = rw (answer .read-is) (fault-read (part ++ after) refl refl (omega arith))
+row-at-line number (row.wrong cell fault) {r} {part} after answer = rw (answer .read-is) (fault-read (part ++ after) refl refl (omega arith))
 
 -- ---- A row of a triangle
 
@@ -59,7 +59,7 @@ module _ (separator n Y : ℕ) (cumulated : Bool) (number rows : ℕ) (line : Li
       → LineReadAs (Triangle n Y cumulated) (rows + 1) (row-in separator (Triangle n Y cumulated) number rows (length (part ++ after)) line)
       (read-at number r) (part ++ after)
   row-of-triangle {r} {part} after h room answer long = record {
-    read = rw (lt-ltb rows n h) (row-read number (row-numbers separator (Y - suc rows) cumulated false (n - rows) line) after answer);
+    read = rw (lt-ltb rows n h) (row-at-line number (row-numbers separator (Y - suc rows) cumulated false (n - rows) line) after answer);
     room-left = λ e. (room .0, omega (arith, room-after-row h (room .1), count-within number _ answer));
   }
 
@@ -69,7 +69,7 @@ pub row-of-openings : (separator number rows : ℕ) (line : List ℕ) {r : RowRe
     → RowReadAs (openings-numbers separator room line) r list
     → LineReadAs Openings (rows + 1) (row-in separator Openings number rows room line) (read-at number r) list
 row-of-openings separator number rows line list most same answer = record {
-  read = rw (append-nil list) at (row-read number (openings-numbers separator _ line) [] answer);
+  read = rw (append-nil list) at (row-at-line number (openings-numbers separator _ line) [] answer);
   room-left = λ e. omega arith;
 }
 
