@@ -15,7 +15,7 @@ abbrev pub answers-right : ℕ → AnswerLists → Bool
 answers-right n NotGiven = true
 answers-right n (FutureAndReserves future reserves) = eqb future (future-length n) && eqb reserves (reserves-length n)
 
--- The answer to question 3, for n years and the cut Y. Of a triangle's lists it is document 01's. Law: `lists-right-is` in proofs/Counted.antt.
+-- The answer to question 3, for n years and the cut Y. Of a triangle's lists it is document 01's. Law: `lists-right-is` in crates/questions/proofs/Counted.antt.
 unfoldable pub list-lengths-right : ℕ → ℕ → ListLengths → Bool
 list-lengths-right n Y l =
     eqb (l .payments) (amounts-length n)

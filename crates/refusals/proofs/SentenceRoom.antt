@@ -45,7 +45,7 @@ module _ (i k : ℤ) where
   weight-not-0-fits x = filled-fits 511 _ _ refl
 
   amount-fits : (missing beyond : List ℕ) (x : ℤ) → leb (length missing + 28 * places missing) 511 ≡ true → leb (length beyond + 28 * places beyond) 511 ≡ true
-      → length (amount-sentence missing beyond i k x) ≤ 511
+      → length (amount-sentence i k x missing beyond) ≤ 511
   unfolding amount-sentence
   amount-fits missing beyond x p q =
       one-of-two (λ template. length (filled template (i ∷ k ∷ x ∷ []))) 511 (from-to (negℤ greatest-amount) greatest-amount x) missing beyond

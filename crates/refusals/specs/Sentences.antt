@@ -62,8 +62,8 @@ weight-not-0-sentence i k x =
     (i ∷ k ∷ x ∷ [])
 
 -- An amount within the limit is wrong only where its cell is missing. It has a sentence for that, and one for an amount beyond the limit.
-unfoldable pub amount-sentence : List ℕ → List ℕ → ℤ → ℤ → ℤ → List ℕ
-amount-sentence missing beyond i k x = filled (cond (from-to (negℤ greatest-amount) greatest-amount x) missing beyond) (i ∷ k ∷ x ∷ [])
+unfoldable pub amount-sentence : ℤ → ℤ → ℤ → List ℕ → List ℕ → List ℕ
+amount-sentence i k x missing beyond = filled (cond (from-to (negℤ greatest-amount) greatest-amount x) missing beyond) (i ∷ k ∷ x ∷ [])
 
 unfoldable pub opening-sentence : ℤ → ℤ → ℤ → List ℕ
 opening-sentence i k x =
@@ -96,12 +96,12 @@ seen-cell-sentence i k = filled (bytes "Accident year @ in development year @ is
 unfoldable pub amounts-sentence : ℤ → ℤ → Found → List ℕ
 amounts-sentence i k found =
     cond (found .«payment_right»)
-    (amount-sentence
+    (amount-sentence i k (found .adjustment)
     (bytes "The adjustment of accident year @ in development year @ is @ and not 0, though the cell is missing: its years add up to no more than the cut.")
-    (bytes "The adjustment of accident year @ in development year @ is @ and not from -1,000,000,000 to 1,000,000,000.") i k (found .adjustment))
-    (amount-sentence
+    (bytes "The adjustment of accident year @ in development year @ is @ and not from -1,000,000,000 to 1,000,000,000."))
+    (amount-sentence i k (found .payment)
     (bytes "The payment of accident year @ in development year @ is @ and not 0, though the cell is missing: its years add up to no more than the cut.")
-    (bytes "The payment of accident year @ in development year @ is @ and not from -1,000,000,000 to 1,000,000,000.") i k (found .payment))
+    (bytes "The payment of accident year @ in development year @ is @ and not from -1,000,000,000 to 1,000,000,000."))
 
 unfoldable pub observed-sentence : ℤ → ℤ → Found → List ℕ
 observed-sentence i k found =

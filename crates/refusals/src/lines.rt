@@ -60,19 +60,19 @@ fn amounts_sentence(i: i64, k: i64, found: Found) -> Line
 {
     if found.payment_right {
         return amount_sentence(
-            b"The adjustment of accident year @ in development year @ is @ and not 0, though the cell is missing: its years add up to no more than the cut.",
-            b"The adjustment of accident year @ in development year @ is @ and not from -1,000,000,000 to 1,000,000,000.",
             i,
             k,
             found.adjustment,
+            b"The adjustment of accident year @ in development year @ is @ and not 0, though the cell is missing: its years add up to no more than the cut.",
+            b"The adjustment of accident year @ in development year @ is @ and not from -1,000,000,000 to 1,000,000,000.",
         );
     }
     amount_sentence(
-        b"The payment of accident year @ in development year @ is @ and not 0, though the cell is missing: its years add up to no more than the cut.",
-        b"The payment of accident year @ in development year @ is @ and not from -1,000,000,000 to 1,000,000,000.",
         i,
         k,
         found.payment,
+        b"The payment of accident year @ in development year @ is @ and not 0, though the cell is missing: its years add up to no more than the cut.",
+        b"The payment of accident year @ in development year @ is @ and not from -1,000,000,000 to 1,000,000,000.",
     )
 }
 

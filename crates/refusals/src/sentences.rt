@@ -83,13 +83,13 @@ pub(crate) fn weight_not_0_sentence(i: i64, k: i64, x: i64) -> Line
 
 // An amount within the limit is wrong only where its cell is missing: the first sentence says that, and the second that it is beyond the limit.
 pub(crate) fn amount_sentence<'a>(
-    missing: &'a [u8],
-    beyond: &'a [u8],
     i: i64,
     k: i64,
     x: i64,
+    missing: &'a [u8],
+    beyond: &'a [u8],
 ) -> Line
-    ensures { λ r. ⌜ LineIs (meaning.amount-sentence (now (missing .entry)) (now (beyond .entry)) i k x) r ⌝ }
+    ensures { λ r. ⌜ LineIs (meaning.amount-sentence i k x (now (missing .entry)) (now (beyond .entry))) r ⌝ }
 {
     if from_to(-GREATEST_AMOUNT, GREATEST_AMOUNT, x) {
         return filled_3(missing, i, k, x);
