@@ -1,4 +1,6 @@
 // The verdict on a triangle, the limits of document 01, and question 1, which every call asks.
+#![tactic(auto)]
+
 pub mod limits;
 pub mod verdict;
 pub mod years;
