@@ -3,7 +3,7 @@ use heading_faults::HeadingFault;
 use row_text::entries::CellFault;
 
 // What was expected.
-#[derive(Drop)]
+#[derive(Clone, Copy)]
 pub enum Expected {
     InHeading(HeadingFault),
     InCell(CellFault),
@@ -12,7 +12,7 @@ pub enum Expected {
 }
 
 // The first fault of a text: its line and its cell, counted from 1, the cell 0 where the whole line is meant.
-#[derive(Drop)]
+#[derive(Clone, Copy)]
 pub enum Fault {
     Nothing,
     At(usize, usize, Expected),

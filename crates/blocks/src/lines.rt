@@ -12,14 +12,14 @@ use text::lines::{first_line, first_line_length};
 
 // What the rows under a heading are: a triangle of so many rows, the first with as many cells, and each with one less than that before it,
 // with its cut and whether it is cumulated; or openings.
-#[derive(Drop)]
+#[derive(Clone, Copy)]
 pub enum Shape {
     Triangle(usize, usize, bool),
     Openings,
 }
 
 // How many numbers were read, and the first fault.
-#[derive(Drop)]
+#[derive(Clone, Copy)]
 pub struct BlockRead {
     pub count: usize,
     pub fault: Fault,

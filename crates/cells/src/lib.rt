@@ -10,7 +10,7 @@ use verdicts::limits::{GREATEST_AMOUNT, GREATEST_WEIGHT, from_to};
 use verdicts::verdict::{Verdict, refusal_at};
 
 // What is asked of a number of a list.
-#[derive(Drop)]
+#[derive(Clone, Copy)]
 pub enum CellTest {
     // question 4
     WeightInRange,

@@ -7,7 +7,7 @@ use crate::outstanding::outstanding_at;
 use crate::places::{cell_at, future_at};
 
 // What was observed is in whole units, what is projected in millionths.
-#[derive(Drop)]
+#[derive(Clone, Copy)]
 pub enum Shown {
     Missing,
     Observed(i64),

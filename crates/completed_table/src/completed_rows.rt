@@ -14,7 +14,7 @@ use printed::line::{Line, line_of};
 use written_figures::writing::amount;
 
 // The three tables of a completed triangle.
-#[derive(Drop)]
+#[derive(Clone, Copy)]
 pub enum Table {
     Payments,
     Adjustments,

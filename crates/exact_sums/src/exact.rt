@@ -3,7 +3,7 @@ ghost use Rattle.std.specs.Prelude.{◌≡◌, ◌+ℤ◌, ◌-ℤ◌};
 ghost use Rattle.exact_sums.specs.Exact.{exact_of};
 
 // A whole number of 64 bits, or that it has more.
-#[derive(Drop)]
+#[derive(Clone, Copy)]
 pub enum Exact {
     Of(i64),
     TooLarge,

@@ -3,7 +3,7 @@ ghost use Rattle.std.specs.Prelude.{◌≡◌, true, ◌+◌, ◌-◌, ◌*◌, 
 ghost use Rattle.figures.specs.Reading.{figure_of, number_of, whole_of, zero_digit, is_digit, all_digits, value_of, above_all_sizes};
 
 // What a cell holds: nothing, a whole number of 64 bits, a whole number of more bits, or something else.
-#[derive(Drop)]
+#[derive(Clone, Copy)]
 pub enum Figure {
     Blank,
     Whole(i64),

@@ -4,7 +4,7 @@ ghost use Rattle.floats.specs.WholeNumbers.{whole_number, plus_zero};
 ghost use Rattle.floats.specs.Reading.{finite, small, exact_range, told};
 
 // What a float is as a whole number: one of at most 2^53 in size, a larger one, or none.
-#[derive(Drop)]
+#[derive(Clone, Copy)]
 pub enum Whole {
     Number(i64),
     Larger,

@@ -10,7 +10,7 @@ use line_parts::words::{is_word, word};
 use text::lines::{first_line, first_line_length};
 
 // What was expected at a line.
-#[derive(Drop)]
+#[derive(Clone, Copy)]
 pub enum HeadingFault {
     HeadingBeforeRow,
     FiguresInRow,
@@ -23,13 +23,13 @@ pub enum HeadingFault {
 }
 
 // The line, counted from 1, and what was expected there.
-#[derive(Drop)]
+#[derive(Clone, Copy)]
 pub enum FirstFault {
     Nothing,
     At(usize, HeadingFault),
 }
 
-#[derive(Drop)]
+#[derive(Clone, Copy)]
 pub enum Checked {
     Right,
     Wrong(HeadingFault),

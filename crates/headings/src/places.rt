@@ -11,7 +11,7 @@ use text::lines::{first_line, first_line_length};
 
 // The number of a heading's line, counted from 1, and the places where it and the next line start.
 // The line is 0 and the places are the end of the text where it is not in the text.
-#[derive(Drop)]
+#[derive(Clone, Copy)]
 pub struct Heading {
     pub line: usize,
     pub start: usize,

@@ -13,7 +13,7 @@ use workbook_reserve::reserve::workbook_reserve;
 
 // The number of the question that refused the call, and the place; all 0 where it is accepted. In C: juniperprow_verdict.
 #[repr(C)]
-#[derive(Drop)]
+#[derive(Clone, Copy)]
 pub struct VerdictAnswer {
     pub number: i64,
     pub accident_year: i64,
@@ -22,7 +22,7 @@ pub struct VerdictAnswer {
 
 // A single cell, in millionths; the figures are 0 where it is refused. In C: juniperprow_cell.
 #[repr(C)]
-#[derive(Drop)]
+#[derive(Clone, Copy)]
 pub struct CellAnswer {
     pub verdict: VerdictAnswer,
     pub payment: i64,

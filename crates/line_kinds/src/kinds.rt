@@ -7,7 +7,7 @@ use line_parts::words::{is_word, word};
 use text::bytes::is_letter;
 use text::search::{Sought, find};
 
-#[derive(Drop)]
+#[derive(Clone, Copy)]
 pub enum LineKind {
     Blank,
     // separators and spaces only

@@ -11,14 +11,14 @@ use verdicts::verdict::{Verdict, asked};
 use verdicts::years::question_1;
 
 // The answer lists that a call lends, by their lengths.
-#[derive(Drop)]
+#[derive(Clone, Copy)]
 pub enum AnswerLists {
     NotGiven,
     FutureAndReserves(usize, usize),
 }
 
 // The lengths of all lists that a call lends.
-#[derive(Drop)]
+#[derive(Clone, Copy)]
 pub struct ListLengths {
     pub payments: usize,
     pub adjustments: usize,

@@ -51,7 +51,7 @@ pub(crate) fn advice_of_cell(fault: CellFault, met: &[u8]) -> Line
 }
 
 // The mistakes that are made most often with a cell that is no number.
-#[derive(Drop)]
+#[derive(Clone, Copy)]
 pub enum Mistake {
     Comment,
     SpreadsheetError,

@@ -7,7 +7,7 @@ use products::high_product;
 use verdicts::limits::GREATEST_FIGURE;
 
 // part = quotient × exposure + remainder, where the remainder is from 0 to below the exposure; the quotient is negative exactly where the part is.
-#[derive(Drop)]
+#[derive(Clone, Copy)]
 pub struct Ratio {
     pub quotient: i64,
     pub remainder: u64,
@@ -42,7 +42,7 @@ pub fn reciprocal_of(exposure: u64) -> u64
 // ---- Quotient and remainder
 
 // part / exposure rounded down, and what is left of the part.
-#[derive(Drop)]
+#[derive(Clone, Copy)]
 struct Floored {
     quotient: i64,
     remainder: u64,
@@ -68,7 +68,7 @@ fn floor_of(part: i64, exposure: u64, reciprocal: u64) -> Floored
 }
 
 // A cut quotient, and what is left of its dividend.
-#[derive(Drop)]
+#[derive(Clone, Copy)]
 struct Divided {
     quotient: u64,
     remainder: u64,
@@ -112,7 +112,7 @@ fn fraction_of(remainder: u64, exposure: u64, reciprocal: u64) -> u64
 const BASE: u64 = 1_048_576;
 
 // A digit of a quotient, and what it leaves.
-#[derive(Drop)]
+#[derive(Clone, Copy)]
 struct Digit {
     digit: u64,
     left: u64,

@@ -10,7 +10,7 @@ use ratios::Sums;
 use verdicts::limits::{DEVELOPMENT_YEARS, GREATEST_SUM};
 
 // The ratios P / D and Q / D of a development year, and D.
-#[derive(Drop)]
+#[derive(Clone, Copy)]
 pub struct PreparedYear {
     pub payments: Ratio,
     pub adjustments: Ratio,

@@ -10,7 +10,7 @@ use written_figures::writing::{Written, whole};
 pub const ROOM: usize = 512;
 
 // A text of `length` bytes, at the start of its room.
-#[derive(Drop)]
+#[derive(Clone, Copy)]
 pub struct Line {
     pub bytes: [u8; ROOM],
     pub length: usize,

@@ -6,7 +6,7 @@ use outstandings::{next_outstanding, opening_of};
 use verdicts::limits::{ACCIDENT_YEARS, DEVELOPMENT_YEARS};
 
 // The sums of a development year k, over the accident years i from 1 to n − k.
-#[derive(Drop)]
+#[derive(Clone, Copy)]
 pub struct Sums {
     // P(k), of w(i, k) × S(i, k + 1)
     pub payments: i64,
@@ -24,7 +24,7 @@ pub const NO_SUMS: Sums = Sums {
 
 // The ratios of development year k, as its sums, stand at k − 1; the last observed outstanding of accident year i, in whole units, at i − 1.
 // What lies beyond the years of the triangle holds zeros.
-#[derive(Drop)]
+#[derive(Clone, Copy)]
 pub struct Development {
     pub ratios: [Sums; DEVELOPMENT_YEARS],
     pub outstandings: [i64; ACCIDENT_YEARS],

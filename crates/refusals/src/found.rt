@@ -10,7 +10,7 @@ use printed::counts::less;
 use verdicts::limits::{GREATEST_AMOUNT, from_to};
 
 // What was lent: the number of accident years, the cut, the years of the cell that is asked for, and the lengths of the lists.
-#[derive(Drop)]
+#[derive(Clone, Copy)]
 pub struct Lent {
     pub years: i64,
     pub cut: i64,
@@ -23,7 +23,7 @@ pub struct Lent {
 }
 
 // What stands at a place.
-#[derive(Drop)]
+#[derive(Clone, Copy)]
 pub struct Found {
     pub weight: i64,
     pub payment: i64,

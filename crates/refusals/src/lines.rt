@@ -78,7 +78,7 @@ fn observed_sentence(i: i64, k: i64, found: Found) -> Line
 }
 
 // Where the text has what is wrong.
-#[derive(Drop)]
+#[derive(Clone, Copy)]
 pub enum InText {
     Nowhere,
     PaymentsRow,

@@ -6,7 +6,7 @@ ghost use Rattle.reserve_pairs.specs.ReservePairs.{pair_of};
 use share::millionths::Millionths;
 
 // In this order in a list of pairs.
-#[derive(Drop)]
+#[derive(Clone, Copy)]
 pub struct Pair {
     pub units: f64,
     pub millionths: f64,
@@ -40,7 +40,7 @@ fn pair_of(amount: i64) -> Pair
     }
 }
 
-#[derive(Drop)]
+#[derive(Clone, Copy)]
 struct Parts {
     units: i64,
     millionths: i64,

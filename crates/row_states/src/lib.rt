@@ -15,7 +15,7 @@ use verdicts::limits::{ACCIDENT_YEARS, DEVELOPMENT_YEARS};
 
 // An accident year after some of its projected years: how many, the outstanding at their end, its reserves up to there,
 // and the payment of the first of them.
-#[derive(Drop)]
+#[derive(Clone, Copy)]
 pub struct RowState {
     pub projected: usize,
     pub outstanding: Millionths,

@@ -7,7 +7,7 @@ use exact_sums::exact::{Exact, difference};
 use figures::reading::{Figure, figure_of};
 
 // What was expected in a cell.
-#[derive(Drop)]
+#[derive(Clone, Copy)]
 pub enum CellFault {
     NumberForBlank,
     WholeNumber,
@@ -18,7 +18,7 @@ pub enum CellFault {
 }
 
 // What a cell holds, or what was expected in it.
-#[derive(Drop)]
+#[derive(Clone, Copy)]
 pub enum Entry {
     // the amount, and the figure that was written
     Amount(i64, i64),

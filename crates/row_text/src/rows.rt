@@ -8,7 +8,7 @@ use crate::entries::{CellFault, Entry, entry_in};
 use line_parts::cells::{first_cell, first_cell_length};
 use text::search::{Sought, find};
 
-#[derive(Drop)]
+#[derive(Clone, Copy)]
 pub enum RowRead {
     // how many numbers
     Right(usize),

@@ -12,7 +12,7 @@ use verdicts::verdict::{Verdict, asked};
 use verdicts::years::question_1;
 
 // The list that a call names.
-#[derive(Drop)]
+#[derive(Clone, Copy)]
 pub enum AmountList {
     Payments,
     Adjustments,

@@ -24,7 +24,7 @@ use verdicts::verdict::{Verdict, refusal_at};
 
 // The verdict of question 9 on an accident year, its reserves, and the payment of its first projected year; zeros where it is refused.
 // Accident year 1 has no projected year, and 0 for its payment.
-#[derive(Drop)]
+#[derive(Clone, Copy)]
 pub struct ProjectedRow {
     pub verdict: Verdict,
     pub paid: Millionths,

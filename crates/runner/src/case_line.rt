@@ -61,7 +61,7 @@ fn kind_of(line: &[u8]) -> u8 {
 }
 
 // The numbers of a case that are in no list: n, Y, and those of the last field, which mean what the call takes them for.
-#[derive(Drop)]
+#[derive(Clone, Copy)]
 pub(crate) struct Asked {
     pub(crate) years: i64,
     pub(crate) cut: i64,

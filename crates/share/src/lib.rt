@@ -14,7 +14,7 @@ use products::{high_product, low_product};
 use verdicts::limits::{GREATEST_FIGURE, from_to};
 
 // A rounded share, or that its size passes the limit of question 9.
-#[derive(Drop)]
+#[derive(Clone, Copy)]
 pub enum Share {
     Rounded(Millionths),
     TooLarge,
@@ -46,7 +46,7 @@ fn limited(value: i64) -> Share
 }
 
 // A quotient rounded half up, and what it leaves of its dividend: from −exposure / 2 to below exposure / 2.
-#[derive(Drop)]
+#[derive(Clone, Copy)]
 struct Nearest {
     quotient: u64,
     leftover: i64,

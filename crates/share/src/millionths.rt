@@ -3,7 +3,7 @@ ghost use Rattle.std.specs.Prelude.{◌≡◌, ◌≤◌, ◌*ℤ◌, unsigned_a
 ghost use Rattle.method.specs.Limits.{one_unit};
 
 // An amount in millionths of a currency unit.
-#[derive(Drop)]
+#[derive(Clone, Copy)]
 pub struct Millionths(pub i64);
 
 impl Millionths {

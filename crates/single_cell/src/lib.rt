@@ -25,7 +25,7 @@ use verdicts::limits::{ACCIDENT_YEARS, DEVELOPMENT_YEARS, from_to};
 use verdicts::verdict::{Verdict, asked};
 
 // The verdict of questions 1 to 10, and the cell's figures; zeros where it is refused.
-#[derive(Drop)]
+#[derive(Clone, Copy)]
 pub struct Cell {
     pub verdict: Verdict,
     pub payment: Millionths,

@@ -9,7 +9,7 @@ use printed::filling::filled_2;
 use printed::line::{Line, line_of};
 
 // The three figures of a cell.
-#[derive(Drop)]
+#[derive(Clone, Copy)]
 pub enum CellFigure {
     Payment,
     Adjustment,

@@ -3,7 +3,7 @@ ghost use Rattle.std.specs.Prelude.{◌≡◌, length};
 ghost use Rattle.text.specs.Search.{parts_words, is_sought, before};
 
 // What a search stops at.
-#[derive(Drop)]
+#[derive(Clone, Copy)]
 pub enum Sought {
     Byte(u8),
     // a comma, a semicolon or a tab

@@ -12,7 +12,7 @@ use verdicts::limits::{ACCIDENT_YEARS, DEVELOPMENT_YEARS};
 use verdicts::verdict::{Verdict, refusal_at};
 
 // The verdict of questions 1 to 8, and what the triangle shows of its development; zeros where it is refused.
-#[derive(Drop)]
+#[derive(Clone, Copy)]
 pub struct Reading {
     pub verdict: Verdict,
     pub development: Development,

@@ -24,7 +24,7 @@ pub const WEIGHTED_CELLS: usize = 496;
 
 // What the headings say: the number of accident years, the cut, how the amounts are to be read, whether weights are given,
 // and the cell that is asked for alone, where one is.
-#[derive(Drop)]
+#[derive(Clone, Copy)]
 pub struct Asked {
     pub years: i64,
     pub cut: i64,
@@ -37,7 +37,7 @@ pub struct Asked {
 }
 
 // The first fault, what is asked, and how many numbers of each list were read.
-#[derive(Drop)]
+#[derive(Clone, Copy)]
 pub struct TextRead {
     pub fault: Fault,
     pub asked: Asked,

@@ -6,14 +6,14 @@ ghost use Rattle.method.specs.Verdicts as meaning;
 ghost use Rattle.verdicts.specs.Verdicts.{verdict_of};
 
 // An accident year and a development year; 0 where there is none.
-#[derive(Drop)]
+#[derive(Clone, Copy)]
 pub struct Place {
     pub accident_year: i64,
     pub development_year: i64,
 }
 
 // Accepted, or refused by a question, of this number, at a place.
-#[derive(Drop)]
+#[derive(Clone, Copy)]
 pub enum Verdict {
     Accepted,
     Refused(u8, Place),

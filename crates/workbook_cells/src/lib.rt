@@ -8,14 +8,14 @@ use floats::{Whole, whole_number};
 use verdicts::limits::GREATEST_AMOUNT;
 
 // A cell is blank or carries its number.
-#[derive(Drop)]
+#[derive(Clone, Copy)]
 pub enum Cell {
     Blank,
     Number(f64),
 }
 
 // The amount that a cell stands for, or that it has none.
-#[derive(Drop)]
+#[derive(Clone, Copy)]
 pub enum Amount {
     Whole(i64),
     NotWhole,
@@ -40,7 +40,7 @@ pub fn convert(kinds: &[u8], numbers: &[f64], amounts: &mut [i64]) -> bool
     all
 }
 
-#[derive(Drop)]
+#[derive(Clone, Copy)]
 struct ConvertedCell {
     amount: i64,
     convertible: bool,

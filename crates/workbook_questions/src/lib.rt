@@ -12,7 +12,7 @@ use verdicts::verdict::{Verdict, refusal_at};
 use workbook_cells::{Amount, amount_of, cell_of};
 
 // What is asked of a cell.
-#[derive(Drop)]
+#[derive(Clone, Copy)]
 pub enum CellQuestion {
     // question 11
     KindKnown,

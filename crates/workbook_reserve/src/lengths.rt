@@ -9,7 +9,7 @@ use questions::list_questions::question_4;
 use verdicts::verdict::{Verdict, asked};
 
 // The lengths of the lists that the filling call of document 01 does not read.
-#[derive(Drop)]
+#[derive(Clone, Copy)]
 pub struct OtherLengths {
     pub payment_kinds: usize,
     pub adjustment_kinds: usize,

@@ -3,7 +3,7 @@ ghost use Rattle.std.specs.Prelude.{◌≡◌, [], ◌∷◌, nat_abs};
 ghost use Rattle.written_figures.specs.Writing.{written, Before, digit, three_digits, first_group, grouped, sign, whole_text, amount_text};
 
 // A text: `width` bytes, set to the right in 32 bytes, with spaces before them.
-#[derive(Drop)]
+#[derive(Clone, Copy)]
 pub struct Written {
     pub bytes: [u8; 32],
     pub width: usize,
