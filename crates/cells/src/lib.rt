@@ -1,4 +1,6 @@
 // Questions 4, 5 and 7: a test of every cell of a list, in list order.
+#![tactic(auto)]
+
 ghost use Rattle.std.specs.Prelude.{◌≡◌, ◌+◌, ◌≤◌, length};
 ghost use Rattle.method.specs.Limits.{most_accident_years};
 ghost use Rattle.method.specs.Triangle.{amounts_length};
