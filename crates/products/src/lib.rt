@@ -1,5 +1,7 @@
 // The product of two numbers of 64 bits, which has 128 bits: its upper and its lower half.
 // Multiplied as by hand, in columns of 32 bits; the compiler makes one multiplication of each half as long as it stands in a function of two plain numbers.
+#![tactic(auto)]
+
 ghost use Rattle.std.specs.Prelude.{◌≡◌, ◌*◌, ◌/◌, ◌%◌, ◌^◌};
 
 // 2^32: one column.
