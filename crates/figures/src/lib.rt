@@ -1,2 +1,4 @@
 // Cells of text read as whole numbers.
+#![tactic(auto)]
+
 pub mod reading;
