@@ -1,4 +1,6 @@
 // The lines of a text, and what is sought in them.
+#![tactic(auto)]
+
 pub mod bytes;
 pub mod lines;
 pub mod search;

@@ -1,0 +1,14 @@
+-- The place so far and the length of what stands before the comment from there on are the place sought; each turn leaves one byte less.
+use mathlib.Core.Path.{◌≡◌}
+use mathlib.Core.Bool.{true}
+use Prim.Native.Nat.{◌+◌, ◌-◌, ◌≤◌}
+use lib.ListN.{length, drop}
+use Rattle.text.specs.Lines.{before_comment}
+use Rattle.text.proofs.lines.comment_start.Given as goal
+
+abbrev pub invariant-loop-at : goal.invariant-loop-at
+invariant-loop-at l =
+    (l.at ≤ length l.line) × (l.at + length (before_comment l.may_begin (drop l.at l.line)) ≡ length (before_comment true l.line))
+
+abbrev pub decreases-loop-at : goal.decreases-loop-at
+decreases-loop-at l = length l.line - l.at

@@ -1,0 +1,8 @@
+-- The search that finds nothing ends at the length of the text.
+use mathlib.Core.Path.{ap}
+use lib.Dec.{eqb}
+use lib.ListN.{length}
+use Rattle.text.proofs.lines.without_return.Goals as goal
+
+pub returns : goal.returns
+returns c = ap (λ found. eqb found (length c.args.text.now)) c.find.ensures
