@@ -12,10 +12,11 @@ use Rattle.method.specs.Triangle.{Triangle, n, Y, S, T, w}
 use Rattle.method.specs.Tests.{years_in_range, cut_in_range}
 use Rattle.method.specs.Outstandings.{R, sums}
 use Rattle.method.specs.RunOff.{movement, year_before, method}
-use Rattle.method.specs.Questions.{lengths_right, figures_in_range, question_1, question_2, question_3, question_4, question_5, question_6, question_7, question_8, question_9_of_year, question_9, list_questions, input_questions, observed_questions, questions, questions_5_to_9, accident_year_in_range, question_10}
+use Rattle.method.specs.Questions.{lengths_right, figures_in_range, question_1, question_2, question_3, question_4, question_5, question_6, question_7, question_8, question_9_of_year, question_9, list_questions, input_questions, observed_questions, questions, accident_year_in_range, question_10}
 use Rattle.method.specs.Answers.{answer, cell_verdict, single_cell, both_lengths_right, row_verdict}
 use Rattle.method.specs.QuestionTable.{Question, question_of_cells, DecidedBy}
-use Rattle.method.specs.Demand1.{FiguresRight, questions_before_amounts, amount_questions, triangle_questions, Demand1OfEveryCall}
+use Rattle.method.specs.Demand1.{FiguresRight, triangle_questions, Demand1OfEveryCall}
+use Rattle.method.specs.QuestionParts.{questions_5_to_9, questions_before_amounts, amount_questions}
 use Rattle.method.proofs.WholeAnswers.{filled_verdict, filled_zeros, cell_figures_verdict, cell_figures_zeros}
 use Rattle.method.proofs.FirstRefusal.{then_assoc, then_none}
 use Rattle.method.proofs.QuestionFacts.{says_input_lengths, says_lengths, says_unseen}

@@ -13,6 +13,7 @@ pub mod Answers
 pub mod AnswerPlaces
 pub mod QuestionTable
 pub mod Demand1
+pub mod QuestionParts
 pub mod Demand2
 pub mod Demand3
 pub mod Theorem

@@ -72,13 +72,9 @@ module _ (m : Method) where
 -- ---- In the order in which they are asked
 
 module _ (t : Triangle) where
-  -- 5 to 7, of the amounts, the outstandings and the weights, each list whole
-  abbrev pub questions_5_to_7 : Verdict
-  questions_5_to_7 = question_5 t then question_6 t then question_7 t
-
-  -- 4 to 7, of the lists
+  -- 4 to 7, of the lists, each whole
   unfoldable pub list_questions : Verdict
-  list_questions = question_4 t then questions_5_to_7
+  list_questions = question_4 t then question_5 t then question_6 t then question_7 t
 
   -- 1 to 7, of all that is lent; a call for a single cell lends no answer lists, so question 3 is given its answer
   unfoldable pub input_questions : Bool → Verdict
@@ -91,10 +87,6 @@ module _ (t : Triangle) where
   -- 1 to 9
   unfoldable pub questions : Bool → Verdict
   questions right = observed_questions right then question_9 (method t)
-
-  -- 5 to 9, before which a request of document 02 may put questions of its own; law `questions_in_two` in proofs/ProofOfDemand1.antt
-  unfoldable pub questions_5_to_9 : Verdict
-  questions_5_to_9 = questions_5_to_7 then question_8 t then question_9 (method t)
 
 -- ---- Question 10, of a single cell and of a row
 

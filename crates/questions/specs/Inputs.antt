@@ -1,7 +1,8 @@
--- The arguments of a call as a triangle, and its lengths.
+-- The arguments of a call as a triangle, its lengths, and questions of it that go together.
 use Rattle.std.specs.Prelude.{Bool, List, ℕ, ℤ, pos, length}
 use Rattle.method.specs.Triangle.{Triangle}
-use Rattle.method.specs.Questions.{input_lengths_right, lengths_right}
+use Rattle.method.specs.Verdicts.{Verdict, ◌then◌}
+use Rattle.method.specs.Questions.{input_lengths_right, lengths_right, question_5, question_6, question_7}
 use Rattle.list_lengths.specs.declared.AnswerLists.{AnswerLists}
 use Rattle.list_lengths.specs.declared.AnswerLists.TheVariants.{NotGiven, FutureAndReserves}
 use Rattle.list_lengths.specs.declared.ListLengths.{ListLengths}
@@ -34,3 +35,6 @@ lengths_of t answers = record {
   openings = length t.openings;
   answers = answers;
 }
+
+abbrev pub questions_5_to_7 : Triangle → Verdict
+questions_5_to_7 t = question_5 t then question_6 t then question_7 t

@@ -2,9 +2,9 @@
 ghost use Rattle.std.specs.Prelude.{◌≡◌, true, List, ℕ, ◌≤◌, ℤ, length};
 ghost use Rattle.method.specs.Limits.{most_accident_years};
 ghost use Rattle.method.specs.Triangle.{amounts_length, weights_length};
-ghost use Rattle.method.specs.Questions.{input_lengths_right, question_4, question_5, questions_5_to_7};
+ghost use Rattle.method.specs.Questions.{input_lengths_right, question_4, question_5};
 ghost use Rattle.verdicts.specs.Verdicts.{verdict_of};
-ghost use Rattle.questions.specs.Inputs.{counted};
+ghost use Rattle.questions.specs.Inputs.{counted, questions_5_to_7};
 
 use cells::{CellTest, first_refusal};
 use outstandings::question_6;

@@ -2,7 +2,7 @@
 use mathlib.Core.Path.{refl}
 use lib.Ieee.{of_bits, of_int}
 use Rattle.floats.specs.WholeNumbers.{whole_number}
-use Rattle.method.specs.Questions.{questions_5_to_9}
+use Rattle.method.specs.QuestionParts.{questions_5_to_9}
 use Rattle.method.proofs.Examples.{computed}
 use Rattle.workbook.specs.Workbook.{amounts_of}
 use Rattle.workbook.specs.Pairs.{pairs}

@@ -10,7 +10,8 @@ use Rattle.floats.specs.WholeNumbers.{plus_zero}
 use Rattle.method.specs.Triangle.{Triangle, future_length, reserves_length}
 use Rattle.method.specs.RunOff.{future, reserves, method}
 use Rattle.method.specs.Verdicts.{accepted, nowhere}
-use Rattle.method.specs.Questions.{question_1, question_2, question_3, question_4, questions, questions_5_to_9}
+use Rattle.method.specs.Questions.{question_1, question_2, question_3, question_4, questions}
+use Rattle.method.specs.QuestionParts.{questions_5_to_9}
 use Rattle.method.specs.Answers.{Answer, answer}
 use Rattle.method.specs.Demand1.{LengthsRight}
 use Rattle.method.specs.Demand2.{Demand2}

@@ -5,7 +5,8 @@ use mathlib.Core.Bool.{Bool}
 use Prim.Native.Nat.{ℕ}
 use Rattle.method.specs.Verdicts.{Verdict, accepted, ◌then◌}
 use Rattle.method.specs.RunOff.{method}
-use Rattle.method.specs.Questions.{question_1, question_2, question_3, question_4, questions_5_to_9}
+use Rattle.method.specs.Questions.{question_1, question_2, question_3, question_4}
+use Rattle.method.specs.QuestionParts.{questions_5_to_9}
 use Rattle.method.specs.QuestionTable.{DecidedBy}
 use Rattle.method.proofs.FirstRefusal.{then_assoc, then_none}
 use Rattle.method.proofs.Tests.{says_leb}

@@ -4,7 +4,7 @@ use Rattle.std.specs.Prelude.{◌≡◌, ◌↔◌, List, ◌∷◌, ◌++◌, �
 use Rattle.floats.specs.WholeNumbers.{the, whole_number, plus_zero}
 use Rattle.method.specs.Verdicts.{Verdict, accepted}
 use Rattle.method.specs.QuestionTable.{Question, DecidedBy, question_of_cells, Cell}
-use Rattle.method.specs.Demand1.{questions_before_amounts, amount_questions}
+use Rattle.method.specs.QuestionParts.{questions_before_amounts, amount_questions}
 use Rattle.workbook.specs.Workbook.{CellList, Workbook, kind_at, number_at, converted}
 use Rattle.workbook.specs.Questions.{n, Y}
 use Rattle.workbook.specs.Answers.{WorkbookAnswer, workbook_answer}

@@ -4,7 +4,8 @@ use Rattle.std.specs.Prelude.{Bool, ◌&&◌, ℕ, eqb, leb, nat_abs, length}
 use Rattle.std.specs.Bool.{beq}
 use Rattle.method.specs.Verdicts.{Verdict, ◌then◌, each_cell}
 use Rattle.method.specs.Triangle.{amounts_length, weights_length, openings_length, future_length, missing}
-use Rattle.method.specs.Questions.{question_1, question_2, question_3, question_4, questions_5_to_9}
+use Rattle.method.specs.Questions.{question_1, question_2, question_3, question_4}
+use Rattle.method.specs.QuestionParts.{questions_5_to_9}
 use Rattle.workbook.specs.Cells.{is_blank, whole_or_blank}
 use Rattle.workbook.specs.Workbook.{CellList, Workbook, kind_at, cell_at, converted, pairs_length}
 

@@ -11,7 +11,8 @@ use Rattle.method.specs.Triangle.{n as size}
 use Rattle.method.specs.RunOff.{method}
 use Rattle.method.specs.RunOff as meaning
 use Rattle.method.specs.Verdicts.{Place, Verdict, accepted, refused, nowhere, ◌then◌}
-use Rattle.method.specs.Questions.{question_3, question_4, questions_5_to_9, questions, lengths_right}
+use Rattle.method.specs.Questions.{question_3, question_4, questions, lengths_right}
+use Rattle.method.specs.QuestionParts.{questions_5_to_9}
 use Rattle.method.specs.Answers.{Answer, answer}
 use Rattle.method.specs.Demand1.{InputLengthsRight, LengthsRight}
 use Rattle.method.proofs.FirstRefusal.{not_both, ask_yes, then_accepted, then_goes_on, then_assoc, stopped, went_on}

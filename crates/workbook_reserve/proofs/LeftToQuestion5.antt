@@ -11,7 +11,8 @@ use Rattle.method.specs.Limits.{greatest_amount}
 use Rattle.method.specs.Triangle.{Triangle, n, Y, amounts_length, cell}
 use Rattle.method.specs.Tests.{amount_right}
 use Rattle.method.specs.Verdicts.{Verdict, accepted, refused, ◌then◌, each_cell}
-use Rattle.method.specs.Questions.{question_5, questions_5_to_9}
+use Rattle.method.specs.Questions.{question_5}
+use Rattle.method.specs.QuestionParts.{questions_5_to_9}
 use Rattle.method.specs.Demand1.{InputLengthsRight}
 use Rattle.method.proofs.FirstRefusal.{then_stops, then_accepted}
 use Rattle.method.proofs.Positions.{cell_at, AmountPlace, every_amount_place}

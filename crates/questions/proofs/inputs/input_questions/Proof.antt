@@ -8,13 +8,13 @@ use mir.Facts.{to_z-of_z}
 use Rattle.method.specs.Triangle.{Triangle}
 use Rattle.method.specs.Outstandings.{R}
 use Rattle.method.specs.Verdicts.{accepted}
-use Rattle.method.specs.Questions.{input_lengths_right, question_4, question_5, question_6, question_7, list_questions, questions_5_to_7}
+use Rattle.method.specs.Questions.{input_lengths_right, question_4, question_5, question_6, question_7, list_questions}
 use Rattle.method.proofs.FirstRefusal.{stopped, went_on}
 use Rattle.method.proofs.QuestionFacts.{says_input_lengths}
 use Rattle.verdicts.specs.Verdicts.{verdict_of}
 use Rattle.verdicts.proofs.Counts.{count_fits}
 use Rattle.list_lengths.specs.Lengths.{questions_1_to_3}
-use Rattle.questions.specs.Inputs.{triangle_of, lengths_of}
+use Rattle.questions.specs.Inputs.{triangle_of, lengths_of, questions_5_to_7}
 use Rattle.questions.proofs.Counted.{input_questions_is, years_right, cut_right, inputs_measured}
 use Rattle.questions.proofs.inputs.input_questions.Statement.{statement}
 use Rattle.questions.proofs.inputs.input_questions.Tie as tie

@@ -4,14 +4,14 @@ use mathlib.Core.Path.{◌≡◌, sym, ap, ◌∙◌}
 use native.Mathlib.Omega.{arith}
 use Rattle.method.specs.Triangle.{Triangle}
 use Rattle.method.specs.Verdicts.{accepted}
-use Rattle.method.specs.Questions.{question_5, question_6, question_7, questions_5_to_7}
+use Rattle.method.specs.Questions.{question_5, question_6, question_7}
 use Rattle.method.specs.Demand1.{InputLengthsRight}
 use Rattle.method.proofs.FirstRefusal.{stopped, went_on, then_accepted}
 use Rattle.method.proofs.QuestionFacts.{says_input_lengths}
 use Rattle.method.proofs.Positions.{weights_length_is}
 use Rattle.verdicts.specs.Verdicts.{verdict_of}
 use Rattle.cells.specs.Cells.{whole_list}
-use Rattle.questions.specs.Inputs.{counted}
+use Rattle.questions.specs.Inputs.{counted, questions_5_to_7}
 use Rattle.questions.proofs.ObservedOutstandings.{question_6_is}
 use Rattle.questions.proofs.list_questions.questions_5_to_7.Statement.{statement}
 use Rattle.questions.proofs.list_questions.questions_5_to_7.Tie as tie
