@@ -1,4 +1,6 @@
 // The ratio of a part, P or Q, to its exposure D, prepared once so that a share by it takes no division.
+#![tactic(auto)]
+
 ghost use Rattle.std.specs.Prelude.{◌≡◌, ◌≤◌, ◌<◌, ◌/◌, ◌^◌, nat_abs};
 ghost use Rattle.method.specs.SumLimits.{greatest_sum};
 ghost use Rattle.prepared_ratios.specs.Ratio.{Exposure, Divisor, FloorOf, Division, FractionOf, DigitInput, NextDigit, Reach, Ready, part_of};
