@@ -1,4 +1,6 @@
 // Questions 1 to 3: n, the cut, and the lengths of the lists that a call lends.
+#![tactic(auto)]
+
 ghost use Rattle.std.specs.Prelude.{◌≡◌, ◌≤◌};
 ghost use Rattle.method.specs.Limits.{most_accident_years};
 ghost use Rattle.method.specs.Verdicts.{accepted};
