@@ -1,2 +1,4 @@
 // Numbers and amounts as text.
+#![tactic(auto)]
+
 pub mod writing;
