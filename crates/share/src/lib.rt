@@ -1,4 +1,6 @@
 // The share of an outstanding that a development year pays or adjusts, in millionths of a unit, by a prepared ratio: multiplications and one correction, no division.
+#![tactic(auto)]
+
 ghost use Rattle.std.specs.Prelude.{◌≡◌, ◌*◌, ◌<◌, ◌≤◌, pos};
 ghost use Rattle.method.specs.SumLimits.{greatest_sum};
 ghost use Rattle.method.specs.ProjectedYear.{share};
