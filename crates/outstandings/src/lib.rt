@@ -1,4 +1,6 @@
 // Question 6: the openings and the observed outstandings, row by row.
+#![tactic(auto)]
+
 ghost use Rattle.std.specs.Prelude.{◌≡◌, ◌+◌, ◌≤◌, suc, ◌+ℤ◌, ◌-ℤ◌};
 ghost use Rattle.method.specs.Limits.{most_accident_years};
 ghost use Rattle.method.specs.Triangle.{entry};
