@@ -7,40 +7,44 @@ use crate::fault::print_fault;
 use crate::printing::{print_line, print_two};
 use blocks::faults::Fault;
 use printed::line::line_of;
+use std::io;
 use text::search::{Sought, find};
 use triangle_text::reading::{Asked, SEEN_CELLS, WEIGHTED_CELLS, read_text};
 use verdicts::limits::ACCIDENT_YEARS;
 
-pub(crate) fn answer(text: &[u8]) -> bool
+pub(crate) fn answer(rt: &impl Print, text: &[u8]) -> io::Result<()>
     requires { length text.now ≤ longest_text }
 {
     if text.len() == 0 {
-        return print_empty();
+        return print_empty(rt);
     }
     if is_no_text(text) {
-        return print_no_text();
+        return print_no_text(rt);
     }
     if has_returns_only(text) {
-        return print_returns_only();
+        return print_returns_only(rt);
     }
-    answer_text(text)
+    answer_text(rt, text)
 }
 
-fn print_empty() -> bool {
-    print_line(line_of(
-        b"refused: expected a text, and met nothing: the file or the input is empty",
-    ))
+fn print_empty(rt: &impl Print) -> io::Result<()> {
+    print_line(
+        rt,
+        line_of(b"refused: expected a text, and met nothing: the file or the input is empty"),
+    )
 }
 
-fn print_no_text() -> bool {
+fn print_no_text(rt: &impl Print) -> io::Result<()> {
     print_two(
+        rt,
         line_of(b"refused: expected a text in UTF-8, and met UTF-16 or no text"),
         line_of(b"Save it as CSV in UTF-8."),
     )
 }
 
-fn print_returns_only() -> bool {
+fn print_returns_only(rt: &impl Print) -> io::Result<()> {
     print_two(
+        rt,
         line_of(
             b"refused: expected lines that end with a line feed, and met carriage returns only",
         ),
@@ -71,7 +75,7 @@ fn is_no_text(text: &[u8]) -> bool {
         | ((first == 254) & (second == 255))
 }
 
-fn answer_text(text: &[u8]) -> bool
+fn answer_text(rt: &impl Print, text: &[u8]) -> io::Result<()>
     requires { length text.now ≤ longest_text }
 {
     let mut payments = [0; SEEN_CELLS];
@@ -92,6 +96,7 @@ fn answer_text(text: &[u8]) -> bool
     let weights_end = read.weights;
     let openings_end = read.openings;
     answer_read(
+        rt,
         text,
         asked,
         fault,
@@ -104,6 +109,7 @@ fn answer_text(text: &[u8]) -> bool
 
 // A text that was read is answered by a call, or by its first fault.
 fn answer_read<'a>(
+    rt: &impl Print,
     text: &'a [u8],
     asked: Asked,
     fault: Fault,
@@ -111,9 +117,9 @@ fn answer_read<'a>(
     adjustments: &'a [i64],
     weights: &'a [i64],
     openings: &'a [i64],
-) -> bool {
+) -> io::Result<()> {
     match fault {
-        Fault::Nothing => call(text, asked, payments, adjustments, weights, openings),
-        Fault::At(line, cell, expected) => print_fault(text, line, cell, expected),
+        Fault::Nothing => call(rt, text, asked, payments, adjustments, weights, openings),
+        Fault::At(line, cell, expected) => print_fault(rt, text, line, cell, expected),
     }
 }

@@ -9,6 +9,7 @@ use calls::reserve::reserve;
 use printed::counts::less;
 use refusals::counts::count_of;
 use single_cell::single_cell;
+use std::io;
 use tables::accepted::{
     accepted_line, adjustments_line, openings_line, payments_line, weights_line,
 };
@@ -17,28 +18,30 @@ use triangle_text::reading::Asked;
 use verdicts::verdict::Verdict;
 
 pub(crate) fn call<'a>(
+    rt: &impl Print,
     text: &'a [u8],
     asked: Asked,
     payments: &'a [i64],
     adjustments: &'a [i64],
     weights: &'a [i64],
     openings: &'a [i64],
-) -> bool {
+) -> io::Result<()> {
     if asked.one_cell {
-        call_cell(text, asked, payments, adjustments, weights, openings)
+        call_cell(rt, text, asked, payments, adjustments, weights, openings)
     } else {
-        call_reserve(text, asked, payments, adjustments, weights, openings)
+        call_reserve(rt, text, asked, payments, adjustments, weights, openings)
     }
 }
 
 fn call_cell<'a>(
+    rt: &impl Print,
     text: &'a [u8],
     asked: Asked,
     payments: &'a [i64],
     adjustments: &'a [i64],
     weights: &'a [i64],
     openings: &'a [i64],
-) -> bool {
+) -> io::Result<()> {
     let cell = single_cell(
         asked.years,
         asked.cut,
@@ -52,9 +55,16 @@ fn call_cell<'a>(
     let verdict = cell.verdict;
     match verdict {
         Verdict::Accepted => {
-            print_cell(asked, cell.payment.0, cell.adjustment.0, cell.outstanding.0)
+            print_cell(
+                rt,
+                asked,
+                cell.payment.0,
+                cell.adjustment.0,
+                cell.outstanding.0,
+            )
         }
         Verdict::Refused(question, place) => print_refusal(
+            rt,
             text,
             asked,
             payments,
@@ -67,43 +77,41 @@ fn call_cell<'a>(
     }
 }
 
-fn print_cell(asked: Asked, payment: i64, adjustment: i64, outstanding: i64) -> bool {
-    if !print_accepted(asked) {
-        return false;
-    }
-    if !print_empty_line() {
-        return false;
-    }
+fn print_cell(
+    rt: &impl Print,
+    asked: Asked,
+    payment: i64,
+    adjustment: i64,
+    outstanding: i64,
+) -> io::Result<()> {
+    print_accepted(rt, asked)?;
+    print_empty_line(rt)?;
     let column = cell_column(payment, adjustment, outstanding);
     let title = cell_title(asked.accident_year, asked.development_year);
-    if print_two(title, cell_line(CellFigure::Payment, payment, column)) {
-        print_two(
-            cell_line(CellFigure::Adjustment, adjustment, column),
-            cell_line(CellFigure::Outstanding, outstanding, column),
-        )
-    } else {
-        false
-    }
+    print_two(rt, title, cell_line(CellFigure::Payment, payment, column))?;
+    print_two(
+        rt,
+        cell_line(CellFigure::Adjustment, adjustment, column),
+        cell_line(CellFigure::Outstanding, outstanding, column),
+    )
 }
 
 // That the triangle is accepted, and how it was read.
-fn print_accepted(asked: Asked) -> bool {
-    if !print_two(
+fn print_accepted(rt: &impl Print, asked: Asked) -> io::Result<()> {
+    print_two(
+        rt,
         accepted_line(asked.years, asked.cut),
         payments_line(asked.payments_cumulated),
-    ) {
-        return false;
-    }
-    if !print_two(
+    )?;
+    print_two(
+        rt,
         adjustments_line(asked.adjustments_cumulated),
         weights_line(asked.weights_given),
-    ) {
-        return false;
-    }
+    )?;
     if asked.cut > 1 {
-        print_line(openings_line())
+        print_line(rt, openings_line())
     } else {
-        true
+        Ok(())
     }
 }
 
@@ -114,19 +122,21 @@ const RESERVE_FIGURES: usize = 96;
 
 // Makes the two answer lists, of the lengths that an accepted call wants.
 fn call_reserve<'a>(
+    rt: &impl Print,
     text: &'a [u8],
     asked: Asked,
     payments: &'a [i64],
     adjustments: &'a [i64],
     weights: &'a [i64],
     openings: &'a [i64],
-) -> bool {
+) -> io::Result<()> {
     let mut future = [0; FUTURE_FIGURES];
     let mut reserves = [0; RESERVE_FIGURES];
     let n = count_of(asked.years);
     let future_end = future_length(n);
     let reserves_end = 3 * n;
     with_answer_lists(
+        rt,
         text,
         asked,
         payments,
@@ -139,6 +149,7 @@ fn call_reserve<'a>(
 }
 
 fn with_answer_lists<'a>(
+    rt: &impl Print,
     text: &'a [u8],
     asked: Asked,
     payments: &'a [i64],
@@ -147,7 +158,7 @@ fn with_answer_lists<'a>(
     openings: &'a [i64],
     future: &mut [i64],
     reserves: &mut [i64],
-) -> bool {
+) -> io::Result<()> {
     let verdict = reserve(
         asked.years,
         asked.cut,
@@ -160,22 +171,21 @@ fn with_answer_lists<'a>(
     );
     match verdict {
         Verdict::Accepted => {
-            if print_accepted(asked) {
-                print_tables(
-                    asked.years,
-                    asked.cut,
-                    payments,
-                    adjustments,
-                    weights,
-                    openings,
-                    future,
-                    reserves,
-                )
-            } else {
-                false
-            }
+            print_accepted(rt, asked)?;
+            print_tables(
+                rt,
+                asked.years,
+                asked.cut,
+                payments,
+                adjustments,
+                weights,
+                openings,
+                future,
+                reserves,
+            )
         }
         Verdict::Refused(question, place) => print_refusal(
+            rt,
             text,
             asked,
             payments,

@@ -6,18 +6,21 @@ use crate::printing::{print_empty_line, print_line};
 use completed_table::completed_rows::{
     Table, completed_column, completed_row, last_in_part, table_title, years_heading,
 };
+use std::io;
 
 pub(crate) fn print_completed<'a>(
+    rt: &impl Print,
     n: usize,
     cut: usize,
     payments: &'a [i64],
     adjustments: &'a [i64],
     openings: &'a [i64],
     future: &'a [i64],
-) -> bool
+) -> io::Result<()>
     requires { (n ≤ most_accident_years) × (cut ≤ most_accident_years) }
 {
-    if !print_table(
+    print_table(
+        rt,
         Table::Payments,
         n,
         cut,
@@ -25,10 +28,9 @@ pub(crate) fn print_completed<'a>(
         adjustments,
         openings,
         future,
-    ) {
-        return false;
-    }
-    if !print_table(
+    )?;
+    print_table(
+        rt,
         Table::Adjustments,
         n,
         cut,
@@ -36,10 +38,9 @@ pub(crate) fn print_completed<'a>(
         adjustments,
         openings,
         future,
-    ) {
-        return false;
-    }
+    )?;
     print_table(
+        rt,
         Table::Outstandings,
         n,
         cut,
@@ -51,6 +52,7 @@ pub(crate) fn print_completed<'a>(
 }
 
 fn print_table<'a>(
+    rt: &impl Print,
     table: Table,
     n: usize,
     cut: usize,
@@ -58,20 +60,17 @@ fn print_table<'a>(
     adjustments: &'a [i64],
     openings: &'a [i64],
     future: &'a [i64],
-) -> bool
+) -> io::Result<()>
     requires { (n ≤ most_accident_years) × (cut ≤ most_accident_years) }
 {
     let column = completed_column(table, n, cut, payments, adjustments, openings, future);
-    if !print_empty_line() {
-        return false;
-    }
-    if !print_line(table_title(table)) {
-        return false;
-    }
+    print_empty_line(rt)?;
+    print_line(rt, table_title(table))?;
     let mut before = 0;
     while before < n {
         let last = last_in_part(n, before, column);
-        if !print_part(
+        print_part(
+            rt,
             table,
             n,
             cut,
@@ -82,16 +81,15 @@ fn print_table<'a>(
             before,
             last,
             column,
-        ) {
-            return false;
-        }
+        )?;
         before = last;
     }
-    true
+    Ok(())
 }
 
 // A part, with an empty line before it unless it is the first.
 fn print_part<'a>(
+    rt: &impl Print,
     table: Table,
     n: usize,
     cut: usize,
@@ -102,12 +100,10 @@ fn print_part<'a>(
     before: usize,
     last: usize,
     column: usize,
-) -> bool
+) -> io::Result<()>
     requires { (n ≤ most_accident_years) × (cut ≤ most_accident_years) × (last ≤ n) }
 {
-    if !print_years(before, last, column) {
-        return false;
-    }
+    print_years(rt, before, last, column)?;
     let mut i = 0;
     while i < n {
         i += 1;
@@ -124,20 +120,16 @@ fn print_part<'a>(
             last,
             column,
         );
-        if !print_line(row) {
-            return false;
-        }
+        print_line(rt, row)?;
     }
-    true
+    Ok(())
 }
 
-fn print_years(before: usize, last: usize, column: usize) -> bool
+fn print_years(rt: &impl Print, before: usize, last: usize, column: usize) -> io::Result<()>
     requires { last ≤ most_accident_years }
 {
     if before > 0 {
-        if !print_empty_line() {
-            return false;
-        }
+        print_empty_line(rt)?;
     }
-    print_line(years_heading(before, last, column))
+    print_line(rt, years_heading(before, last, column))
 }

@@ -1,5 +1,7 @@
 // Reads a triangle as text, from the file that is named or from standard input, and prints its reserves or why it is refused.
 // docs/FORMAT.md says what is read and what is printed.
+#![tactic(auto)]
+
 mod answer;
 mod call;
 mod completed_tables;
@@ -10,72 +12,75 @@ mod tables_of_answer;
 
 use printed::line::line_of;
 use printing::print_line;
+use std::fs::File;
+use std::io::Read;
+use std::rt::Files;
+use std::{env, io};
 
 // The name of a file has at most as many bytes, and one byte more of 0 after them.
 const LONGEST_NAME: usize = 4095;
 
-fn main() {
-    let arguments = os::arg_count();
-    if arguments < 2 {
-        read_from(libc::STDIN_FILENO, b"standard input");
-    } else if arguments == 2 {
-        read_named();
-    } else {
-        io::write_all(libc::STDERR_FILENO, b"usage: reserve [FILE]\n");
+const LONGEST_TEXT: usize = 65_536;
+
+fn main(rt: HostRuntime) -> io::Result<()> {
+    let mut arguments = match env::args(&rt) {
+        Ok(arguments) => arguments,
+        Err(error) => return fail(&rt, "the name of the file", error),
+    };
+    let _program = arguments.next();
+    let Some(name) = arguments.next() else {
+        return read_from(&rt, rt.reader(), "standard input");
+    };
+    if arguments.next().is_some() {
+        return rt.eprintln("usage: reserve [FILE]");
     }
+    read_named(&rt, name.as_str())
 }
 
-fn read_named() {
-    let mut name = io::buffer();
-    let length = os::arg(1, &mut name);
-    if os::errno() != 0 {
-        os::fail(b"the name of the file");
-        return;
+fn read_named(rt: &(impl Files + Print + Eprint + AllocGlobal), name: &str) -> io::Result<()> {
+    if name == "-" {
+        return rt.eprintln("-: expected the name of a file; without one, standard input is read");
     }
-    if is_dash(&name[..length]) {
-        io::write_all(
-            libc::STDERR_FILENO,
-            b"-: expected the name of a file; without one, standard input is read\n",
-        );
-        return;
-    }
-    let file = os::open_read(&name[..length]);
-    if file >= 0 {
-        read_from(file, &name[..length]);
-    } else if length > LONGEST_NAME {
-        os::fail(b"the name of the file");
-    } else {
-        os::fail(&name[..length]);
-    }
-}
-
-fn is_dash(name: &[u8]) -> bool {
-    if name.len() == 1 {
-        name[0] == b'-'
-    } else {
-        false
+    match File::open(rt, name) {
+        Ok(file) => read_from(rt, file, name),
+        Err(error) if name.len() > LONGEST_NAME => fail(rt, "the name of the file", error),
+        Err(error) => fail(rt, name, error),
     }
 }
 
 // A text that is not read to its end is not answered. What cannot be written is said once, with the system's reason.
-fn read_from(file: i32, name: &[u8]) {
-    let mut text = io::large_buffer();
-    let length = io::read_full(file, &mut text);
-    let mut more = [0u8; 1];
-    let beyond = libc::read(file, &mut more);
-    if beyond < 0 {
-        os::fail(name);
-        return;
+fn read_from<R: Read + Drop>(
+    rt: &(impl Print + Eprint + AllocGlobal),
+    from: R,
+    name: &str,
+) -> io::Result<()> {
+    let mut text = Vec::new(rt.alloc());
+    let mut first = from.take(LONGEST_TEXT as u64 + 1);
+    if let Err(error) = first.read_to_end(&mut text) {
+        return fail(rt, name, error);
     }
-    if beyond > 0 {
-        say_unless(print_line(line_of(b"refused: expected a text of at most 65,536 bytes")));
-        return;
+    match print_answer(rt, text.as_slice()) {
+        Ok(()) => Ok(()),
+        Err(error) => fail(rt, "standard output", error),
     }
-    say_unless(answer::answer(&text[..length]));
 }
 
-fn say_unless(written: bool) {
-    if !written {
-        os::fail(b"standard output");
+fn print_answer(rt: &impl Print, text: &[u8]) -> io::Result<()> {
+    if text.len() > LONGEST_TEXT {
+        return print_line(
+            rt,
+            line_of(b"refused: expected a text of at most 65,536 bytes"),
+        );
     }
+    answer::answer(rt, text)
+}
+
+// Says on standard error what failed and the system's reason, without the number that the system gives it.
+fn fail(rt: &(impl Eprint + AllocGlobal), what: &str, error: io::Error) -> io::Result<()> {
+    let told = format!(in rt.alloc(); "{error}")?;
+    let reason = match told.as_str().split_once(" (os error ") {
+        Some((reason, _number)) => reason,
+        None => told.as_str(),
+    };
+    rt.eprintln(format_args!("{what}: {reason}"))
 }

@@ -6,10 +6,12 @@ use line_parts::cells::separator_of;
 use refusals::counts::count_of;
 use refusals::found::{Found, Lent, found_at};
 use refusals::lines::{InText, in_text, refused_line, see_line, see_lines, sentence};
+use std::io;
 use triangle_text::reading::{Asked, without_mark};
 use verdicts::verdict::Place;
 
 pub(crate) fn print_refusal<'a>(
+    rt: &impl Print,
     text: &'a [u8],
     asked: Asked,
     payments: &'a [i64],
@@ -18,7 +20,7 @@ pub(crate) fn print_refusal<'a>(
     openings: &'a [i64],
     question: u8,
     place: Place,
-) -> bool {
+) -> io::Result<()> {
     let lent = Lent {
         years: asked.years,
         cut: asked.cut,
@@ -39,47 +41,59 @@ pub(crate) fn print_refusal<'a>(
         count_of(place.accident_year),
         count_of(place.development_year),
     );
-    print_sentence(text, question, place, lent, found)
+    print_sentence(rt, text, question, place, lent, found)
 }
 
-fn print_sentence(bytes: &[u8], question: u8, place: Place, lent: Lent, found: Found) -> bool {
-    if print_two(
+fn print_sentence(
+    rt: &impl Print,
+    bytes: &[u8],
+    question: u8,
+    place: Place,
+    lent: Lent,
+    found: Found,
+) -> io::Result<()> {
+    print_two(
+        rt,
         refused_line(question, place),
         sentence(question, place, lent, found),
-    ) {
-        print_where(
-            without_mark(bytes),
-            in_text(question, found),
-            count_of(place.accident_year),
-        )
-    } else {
-        false
-    }
+    )?;
+    print_where(
+        rt,
+        without_mark(bytes),
+        in_text(question, found),
+        count_of(place.accident_year),
+    )
 }
 
 // Where the text has it: row i of a block, or a heading.
-fn print_where(text: &[u8], wrong: InText, i: usize) -> bool {
+fn print_where(rt: &impl Print, text: &[u8], wrong: InText, i: usize) -> io::Result<()> {
     let separator = separator_of(text);
     match wrong {
-        InText::Nowhere => true,
-        InText::PaymentsRow => print_see(row_line(text, separator, LineKind::Payments, i)),
-        InText::AdjustmentsRow => print_see(row_line(text, separator, LineKind::Adjustments, i)),
-        InText::WeightsRow => print_see(row_line(text, separator, LineKind::Weights, i)),
+        InText::Nowhere => Ok(()),
+        InText::PaymentsRow => print_see(rt, row_line(text, separator, LineKind::Payments, i)),
+        InText::AdjustmentsRow => print_see(
+            rt,
+            row_line(text, separator, LineKind::Adjustments, i),
+        ),
+        InText::WeightsRow => print_see(rt, row_line(text, separator, LineKind::Weights, i)),
         InText::OpeningsHeading => {
             let heading = find_heading(text, separator, LineKind::Openings);
-            print_see(heading.line)
+            print_see(rt, heading.line)
         }
-        InText::BothRows => print_line(see_lines(
-            row_line(text, separator, LineKind::Payments, i),
-            row_line(text, separator, LineKind::Adjustments, i),
-        )),
+        InText::BothRows => print_line(
+            rt,
+            see_lines(
+                row_line(text, separator, LineKind::Payments, i),
+                row_line(text, separator, LineKind::Adjustments, i),
+            ),
+        ),
     }
 }
 
 // A line that the text does not have is not named.
-fn print_see(line: usize) -> bool {
+fn print_see(rt: &impl Print, line: usize) -> io::Result<()> {
     if line == 0 {
-        return true;
+        return Ok(());
     }
-    print_line(see_line(line))
+    print_line(rt, see_line(line))
 }

@@ -10,11 +10,13 @@ use refusals::counts::count_of;
 use reserve_table::reserve_rows::{
     reserves_column, reserves_heading, reserves_row, reserves_title, totals_row,
 };
+use std::io;
 use tables::sums_rows::{sums_column, sums_heading, sums_row, sums_title};
 use triangle::reading::read;
 use verdicts::limits::{ACCIDENT_YEARS, DEVELOPMENT_YEARS};
 
 pub(crate) fn print_tables<'a>(
+    rt: &impl Print,
     years: i64,
     cut: i64,
     payments: &'a [i64],
@@ -23,7 +25,7 @@ pub(crate) fn print_tables<'a>(
     openings: &'a [i64],
     future: &'a [i64],
     reserves: &'a [i64],
-) -> bool {
+) -> io::Result<()> {
     let reading = read(
         years,
         cut,
@@ -37,51 +39,48 @@ pub(crate) fn print_tables<'a>(
     let outstandings = development.outstandings;
     let ratios = development.ratios;
     let n = count_of(years);
-    if !print_reserves(n, outstandings, reserves) {
-        return false;
-    }
-    if !print_completed(n, count_of(cut), payments, adjustments, openings, future) {
-        return false;
-    }
-    print_sums(n, ratios)
+    print_reserves(rt, n, outstandings, reserves)?;
+    print_completed(
+        rt,
+        n,
+        count_of(cut),
+        payments,
+        adjustments,
+        openings,
+        future,
+    )?;
+    print_sums(rt, n, ratios)
 }
 
-fn print_reserves(n: usize, outstandings: [i64; ACCIDENT_YEARS], reserves: &[i64]) -> bool
+fn print_reserves(
+    rt: &impl Print,
+    n: usize,
+    outstandings: [i64; ACCIDENT_YEARS],
+    reserves: &[i64],
+) -> io::Result<()>
     requires { n ≤ most_accident_years }
 {
     let column = reserves_column(n, outstandings, reserves);
-    if !print_empty_line() {
-        return false;
-    }
-    if !print_two(reserves_title(), reserves_heading(column)) {
-        return false;
-    }
+    print_empty_line(rt)?;
+    print_two(rt, reserves_title(), reserves_heading(column))?;
     let mut i = 0;
     while i < n {
         i += 1;
-        if !print_line(reserves_row(outstandings, reserves, i, column)) {
-            return false;
-        }
+        print_line(rt, reserves_row(outstandings, reserves, i, column))?;
     }
-    print_line(totals_row(n, outstandings, reserves, column))
+    print_line(rt, totals_row(n, outstandings, reserves, column))
 }
 
-fn print_sums(n: usize, ratios: [Sums; DEVELOPMENT_YEARS]) -> bool
+fn print_sums(rt: &impl Print, n: usize, ratios: [Sums; DEVELOPMENT_YEARS]) -> io::Result<()>
     requires { n ≤ most_accident_years }
 {
     let column = sums_column(n, ratios);
-    if !print_empty_line() {
-        return false;
-    }
-    if !print_two(sums_title(), sums_heading(column)) {
-        return false;
-    }
+    print_empty_line(rt)?;
+    print_two(rt, sums_title(), sums_heading(column))?;
     let mut k = 1;
     while k < n {
-        if !print_line(sums_row(ratios, k, column)) {
-            return false;
-        }
+        print_line(rt, sums_row(ratios, k, column))?;
         k += 1;
     }
-    true
+    Ok(())
 }

@@ -11,24 +11,25 @@ use line_parts::cells::field;
 use rows::AmountList;
 
 // Prints what is tried, and what its call answers.
-pub(crate) fn work(line: &[u8]) {
-    print(field(line, b'|', 1));
-    print(b": ");
-    with_lists(line);
-    print(b"\n");
+pub(crate) fn work(rt: &impl Print, line: &[u8]) {
+    print(rt, field(line, b'|', 1));
+    print(rt, b": ");
+    with_lists(rt, line);
+    print(rt, b"\n");
 }
 
 // Reads the four lent lists.
-fn with_lists(line: &[u8]) {
+fn with_lists(rt: &impl Print, line: &[u8]) {
     let mut payments = [0; 561];
     let mut adjustments = [0; 561];
     let mut weights = [0; 528];
     let mut openings = [0; 32];
-    let payments_end = read_numbers(field(line, b'|', 3), &mut payments);
-    let adjustments_end = read_numbers(field(line, b'|', 4), &mut adjustments);
-    let weights_end = read_numbers(field(line, b'|', 5), &mut weights);
-    let openings_end = read_numbers(field(line, b'|', 6), &mut openings);
+    let payments_end = read_numbers(rt, field(line, b'|', 3), &mut payments);
+    let adjustments_end = read_numbers(rt, field(line, b'|', 4), &mut adjustments);
+    let weights_end = read_numbers(rt, field(line, b'|', 5), &mut weights);
+    let openings_end = read_numbers(rt, field(line, b'|', 6), &mut openings);
     call(
+        rt,
         line,
         &payments[0..payments_end],
         &adjustments[0..adjustments_end],
@@ -39,20 +40,21 @@ fn with_lists(line: &[u8]) {
 
 // The first letter tells the call.
 fn call<'a>(
+    rt: &impl Print,
     line: &[u8],
     payments: &'a [i64],
     adjustments: &'a [i64],
     weights: &'a [i64],
     openings: &'a [i64],
 ) {
-    let asked = asked_of(line);
+    let asked = asked_of(rt, line);
     let kind = kind_of(line);
     match kind {
-        b'r' => try_reserve(asked, payments, adjustments, weights, openings),
-        b'c' => try_cell(asked, payments, adjustments, weights, openings),
-        b'p' => try_row(asked, payments, adjustments, AmountList::Payments),
-        b'a' => try_row(asked, payments, adjustments, AmountList::Adjustments),
-        _ => print(b"no such call"),
+        b'r' => try_reserve(rt, asked, payments, adjustments, weights, openings),
+        b'c' => try_cell(rt, asked, payments, adjustments, weights, openings),
+        b'p' => try_row(rt, asked, payments, adjustments, AmountList::Payments),
+        b'a' => try_row(rt, asked, payments, adjustments, AmountList::Adjustments),
+        _ => print(rt, b"no such call"),
     }
 }
 
@@ -71,11 +73,11 @@ pub(crate) struct Asked {
 }
 
 // 0 where a field has fewer numbers.
-fn asked_of(line: &[u8]) -> Asked {
+fn asked_of(rt: &impl Print, line: &[u8]) -> Asked {
     let mut size = [0; 2];
     let mut last = [0; 3];
-    read_numbers(field(line, b'|', 2), &mut size);
-    read_numbers(field(line, b'|', 7), &mut last);
+    read_numbers(rt, field(line, b'|', 2), &mut size);
+    read_numbers(rt, field(line, b'|', 7), &mut last);
     Asked {
         years: size[0],
         cut: size[1],

@@ -6,6 +6,7 @@ use verdicts::verdict::Verdict;
 
 // Prints the verdict, and the cell's figures or whether they are zeros.
 pub(crate) fn try_cell<'a>(
+    rt: &impl Print,
     asked: Asked,
     payments: &'a [i64],
     adjustments: &'a [i64],
@@ -23,8 +24,9 @@ pub(crate) fn try_cell<'a>(
         asked.second,
     );
     let verdict = cell.verdict;
-    print_verdict(verdict);
+    print_verdict(rt, verdict);
     print_figures(
+        rt,
         verdict,
         cell.payment.0,
         cell.adjustment.0,
@@ -32,13 +34,19 @@ pub(crate) fn try_cell<'a>(
     );
 }
 
-fn print_figures(verdict: Verdict, payment: i64, adjustment: i64, outstanding: i64) {
+fn print_figures(
+    rt: &impl Print,
+    verdict: Verdict,
+    payment: i64,
+    adjustment: i64,
+    outstanding: i64,
+) {
     let Verdict::Accepted = verdict else {
         let zeros = (payment == 0) & (adjustment == 0) & (outstanding == 0);
-        print_whether(zeros, b"all zeros");
+        print_whether(rt, zeros, b"all zeros");
         return;
     };
-    print_amount(b", payment ", payment);
-    print_amount(b", adjustment ", adjustment);
-    print_amount(b", outstanding ", outstanding);
+    print_amount(rt, b", payment ", payment);
+    print_amount(rt, b", adjustment ", adjustment);
+    print_amount(rt, b", outstanding ", outstanding);
 }

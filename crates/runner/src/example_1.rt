@@ -6,7 +6,7 @@ use calls::reserve::reserve;
 use exact_sums::exact::{Exact, difference};
 use verdicts::limits::from_to;
 
-pub(crate) fn compare() {
+pub(crate) fn compare(rt: &impl Print) {
     let payments = differences(CUMULATED_PAYMENTS);
     let adjustments = differences(CUMULATED_REPORTED_AMOUNTS);
     let mut future = [0; 135];
@@ -21,10 +21,10 @@ pub(crate) fn compare() {
         &mut future,
         &mut reserves,
     );
-    print(b"Example 1: ");
-    print_verdict(verdict);
-    print(b"\n");
-    print_years(reserves);
+    print(rt, b"Example 1: ");
+    print_verdict(rt, verdict);
+    print(rt, b"\n");
+    print_years(rt, reserves);
 }
 
 // A cumulated triangle of ten accident years, row after row, as what each year adds.
@@ -55,21 +55,21 @@ fn one_less(count: u32) -> u32 {
     if count == 0 { 0 } else { count - 1 }
 }
 
-fn print_years(reserves: [i64; 30]) {
+fn print_years(rt: &impl Print, reserves: [i64; 30]) {
     let mut i = 0;
     while i < 10 {
-        print_year((i + 1) as i64, RESERVES[i], reserves[3 * i]);
+        print_year(rt, (i + 1) as i64, RESERVES[i], reserves[3 * i]);
         i += 1;
     }
 }
 
 // The paper's reserve, the computed paid-based reserve, and whether they are within 10 units.
-fn print_year(accident_year: i64, paper: i64, computed: i64) {
-    print_number(b"Example 1, accident year ", accident_year);
-    print_amount(b": paper ", paper);
-    print_amount(b", computed ", computed);
-    print_whether(within_10(paper, computed), b"within 10");
-    print(b"\n");
+fn print_year(rt: &impl Print, accident_year: i64, paper: i64, computed: i64) {
+    print_number(rt, b"Example 1, accident year ", accident_year);
+    print_amount(rt, b": paper ", paper);
+    print_amount(rt, b", computed ", computed);
+    print_whether(rt, within_10(paper, computed), b"within 10");
+    print(rt, b"\n");
 }
 
 fn within_10(paper: i64, computed: i64) -> bool {

@@ -1,5 +1,7 @@
 // Works the cases that it reads, a line each, and prints a line for each: what document 01 leaves to a runner.
 // tools/runner_stdout.py writes the cases, which are the file stdin, and what must be printed, which is the file stdout.
+#![tactic(auto)]
+
 mod case_line;
 mod cell_call;
 mod example_1;
@@ -9,20 +11,27 @@ mod printing;
 mod reserve_call;
 mod row_call;
 
+use std::io;
+use std::io::Read;
 use text::search::{Sought, find};
 
-fn main() {
-    let mut cases = io::large_buffer();
-    let length = io::read_full(libc::STDIN_FILENO, &mut cases);
-    work_lines(&cases[..length]);
-    example_1::compare();
+// What is read at most.
+const LONGEST_TEXT: u64 = 65_536;
+
+fn main(rt: HostRuntime) -> io::Result<()> {
+    let mut cases = Vec::new(rt.alloc());
+    let mut input = rt.reader().take(LONGEST_TEXT);
+    input.read_to_end(&mut cases)?;
+    work_lines(&rt, cases.as_slice());
+    example_1::compare(&rt);
+    Ok(())
 }
 
-fn work_lines(cases: &[u8]) {
+fn work_lines(rt: &impl Print, cases: &[u8]) {
     let mut start = 0;
     while start < cases.len() {
         let end = start + find(&cases[start..], Sought::Byte(b'\n'));
-        case_line::work(&cases[start..end]);
+        case_line::work(rt, &cases[start..end]);
         start = end + 1;
     }
 }

@@ -1,54 +1,54 @@
 // What is printed: texts, numbers, amounts and verdicts.
-use libc::STDOUT_FILENO;
 use verdicts::verdict::Verdict;
 use written_figures::writing::{Written, amount, whole};
 
-pub(crate) fn print(text: &[u8]) {
-    io::write_all(STDOUT_FILENO, text);
+// A write that fails is passed over: whoever compares what was printed sees it.
+pub(crate) fn print(rt: &impl Print, text: &[u8]) {
+    let _ = rt.write_all(text);
 }
 
 // A text, and a number after it.
-pub(crate) fn print_number(text: &[u8], number: i64) {
-    print(text);
-    print_written(whole(number));
+pub(crate) fn print_number(rt: &impl Print, text: &[u8], number: i64) {
+    print(rt, text);
+    print_written(rt, whole(number));
 }
 
 // A text, and millionths in units with six decimals.
-pub(crate) fn print_amount(text: &[u8], millionths: i64) {
-    print(text);
-    print_written(amount(millionths));
+pub(crate) fn print_amount(rt: &impl Print, text: &[u8], millionths: i64) {
+    print(rt, text);
+    print_written(rt, amount(millionths));
 }
 
 // A number stands at the end of its bytes.
-fn print_written(written: Written) {
+fn print_written(rt: &impl Print, written: Written) {
     let bytes = written.bytes;
-    print_last(&bytes, written.width);
+    print_last(rt, &bytes, written.width);
 }
 
-fn print_last(bytes: &[u8], width: usize) {
+fn print_last(rt: &impl Print, bytes: &[u8], width: usize) {
     if width <= bytes.len() {
-        print(&bytes[bytes.len() - width..]);
+        print(rt, &bytes[bytes.len() - width..]);
     }
 }
 
 // The number and the place of a refusal.
-pub(crate) fn print_verdict(verdict: Verdict) {
+pub(crate) fn print_verdict(rt: &impl Print, verdict: Verdict) {
     match verdict {
-        Verdict::Accepted => print(b"accepted"),
+        Verdict::Accepted => print(rt, b"accepted"),
         Verdict::Refused(question, place) => {
-            print_number(b"refused by ", question as i64);
-            print_number(b" at (", place.accident_year);
-            print_number(b", ", place.development_year);
-            print(b")");
+            print_number(rt, b"refused by ", question as i64);
+            print_number(rt, b" at (", place.accident_year);
+            print_number(rt, b", ", place.development_year);
+            print(rt, b")");
         }
     }
 }
 
 // A text, or that it does not hold.
-pub(crate) fn print_whether(holds: bool, text: &[u8]) {
-    print(b", ");
+pub(crate) fn print_whether(rt: &impl Print, holds: bool, text: &[u8]) {
+    print(rt, b", ");
     if !holds {
-        print(b"not ");
+        print(rt, b"not ");
     }
-    print(text);
+    print(rt, text);
 }

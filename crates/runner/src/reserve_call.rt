@@ -9,6 +9,7 @@ use verdicts::verdict::Verdict;
 
 // Prints the verdict, and the reserves at a place of the reserve list or whether both lists hold zeros throughout.
 pub(crate) fn try_reserve<'a>(
+    rt: &impl Print,
     asked: Asked,
     payments: &'a [i64],
     adjustments: &'a [i64],
@@ -32,14 +33,21 @@ pub(crate) fn try_reserve<'a>(
         future,
         reserves,
     );
-    print_answer(verdict, future, reserves, asked.third);
+    print_answer(rt, verdict, future, reserves, asked.third);
 }
 
-fn print_answer<'a>(verdict: Verdict, future: &'a [i64], reserves: &'a [i64], place: i64) {
-    print_verdict(verdict);
+fn print_answer<'a>(
+    rt: &impl Print,
+    verdict: Verdict,
+    future: &'a [i64],
+    reserves: &'a [i64],
+    place: i64,
+) {
+    print_verdict(rt, verdict);
     match verdict {
-        Verdict::Accepted => print_reserves(reserves, place),
+        Verdict::Accepted => print_reserves(rt, reserves, place),
         Verdict::Refused(_, _) => print_whether(
+            rt,
             all_zeros(future) & all_zeros(reserves),
             b"all zeros",
         ),
@@ -58,11 +66,11 @@ fn within(count: i64, most: usize) -> usize
 }
 
 // Three reserves, from a place of the list on.
-fn print_reserves(reserves: &[i64], place: i64) {
+fn print_reserves(rt: &impl Print, reserves: &[i64], place: i64) {
     let at = within(place, 96);
-    print_amount(b", paid ", number_at(reserves, at));
-    print_amount(b", incurred ", number_at(reserves, at + 1));
-    print_amount(b", closing ", number_at(reserves, at + 2));
+    print_amount(rt, b", paid ", number_at(reserves, at));
+    print_amount(rt, b", incurred ", number_at(reserves, at + 1));
+    print_amount(rt, b", closing ", number_at(reserves, at + 2));
 }
 
 fn all_zeros(list: &[i64]) -> bool {

@@ -6,6 +6,7 @@ use verdicts::verdict::Verdict;
 
 // Prints the verdict, and the row or whether it is empty.
 pub(crate) fn try_row<'a>(
+    rt: &impl Print,
     asked: Asked,
     payments: &'a [i64],
     adjustments: &'a [i64],
@@ -13,18 +14,18 @@ pub(crate) fn try_row<'a>(
 ) {
     let numbers = row(asked.years, payments, adjustments, named, asked.first);
     let verdict = row_verdict(asked.years, payments, adjustments, named, asked.first);
-    print_verdict(verdict);
+    print_verdict(rt, verdict);
     match verdict {
-        Verdict::Accepted => print_numbers(numbers),
-        Verdict::Refused(_, _) => print_whether(numbers.len() == 0, b"empty"),
+        Verdict::Accepted => print_numbers(rt, numbers),
+        Verdict::Refused(_, _) => print_whether(rt, numbers.len() == 0, b"empty"),
     }
 }
 
-fn print_numbers(numbers: &[i64]) {
-    print(b",");
+fn print_numbers(rt: &impl Print, numbers: &[i64]) {
+    print(rt, b",");
     let mut j = 0;
     while j < numbers.len() {
-        print_number(b" ", numbers[j]);
+        print_number(rt, b" ", numbers[j]);
         j += 1;
     }
 }
