@@ -1,4 +1,6 @@
 // 64-bit floats that are whole numbers, read without loss, and lists of floats cleared.
+#![tactic(auto)]
+
 ghost use Rattle.std.specs.Prelude.{◌≡◌, true, length, replicate};
 ghost use Rattle.floats.specs.WholeNumbers.{whole_number, plus_zero};
 ghost use Rattle.floats.specs.Reading.{finite, small, exact_range, told};
