@@ -21,7 +21,7 @@ pub record RowInside (xs : List ℤ) (n i : ℕ) : Type 0 where
 
 -- ---- Where the row lies in memory
 
--- A list as it is lent: where it lies (`ptr`, a block of memory and an offset in bytes) and the numbers that it holds (`now`).
+-- A list as it is lent: where it lies (`ref_ptr`, a block of memory and an offset in bytes) and the numbers that it holds (`now`).
 abbrev pub ListInMemory : Type 0
 ListInMemory = Bor (List ℤ)
 
@@ -31,8 +31,8 @@ number_bytes = 8
 
 -- r lies in the list xs itself, from the number after the first `before` ones on: it is that part of the caller's list, and no copy
 pub record OwnPart (xs : ListInMemory) (before : ℕ) (r : ListInMemory) : Type 0 where
-  pub same_block : r.ptr.0 ≡ xs.ptr.0
-  pub offset : r.ptr.1 ≡ xs.ptr.1 + number_bytes * before
+  pub same_block : r.ref_ptr.0 ≡ xs.ref_ptr.0
+  pub offset : r.ref_ptr.1 ≡ xs.ref_ptr.1 + number_bytes * before
 
 -- the list that a call names, as it is lent
 abbrev pub named_of : ListInMemory → ListInMemory → Amounts → ListInMemory
