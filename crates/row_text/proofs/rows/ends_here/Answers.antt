@@ -4,7 +4,6 @@ use mathlib.Core.Bool.{true}
 use mathlib.Core.List.{List, [], ◌∷◌}
 use Prim.Native.Nat.{ℕ}
 use native.Mathlib.Omega.{arith}
-use borrow.Author.Rules.{rules}
 use borrow.Author.Tests.{eq-eqb, ne_eqb}
 use lib.Dec.{eqb}
 use lib.ListN.{length, drop, length-drop}
@@ -13,8 +12,7 @@ use Rattle.line_parts.specs.Cells.{from_content}
 use Rattle.text.specs.declared.search.Sought.TheVariants.{NeitherSpaceNor}
 use Rattle.text.proofs.Searches.{found_within, from_found}
 use Rattle.row_text.specs.Rows.{ends_here}
-use Rattle.row_text.proofs.rows.ends_here.Statement.{statement}
-use Rattle.row_text.proofs.rows.ends_here.Tie as tie
+use Rattle.row_text.proofs.rows.ends_here.Goals as goal
 
 -- nothing but blank cells is left where nothing is found
 nothing_found : (separator found : ℕ) (rest : List ℕ) → found ≡ length (before (NeitherSpaceNor separator) rest)
@@ -25,14 +23,5 @@ nothing_found separator found rest is = go (from_content separator rest) (from_f
     go [] e = eq-eqb found (length rest) (omega (arith, ap length e, length-drop found rest, found_within (NeitherSpaceNor separator) rest found is))
     go (byte ∷ others) e = ne_eqb found (length rest) (λ same. omega (arith, ap length e, length-drop found rest, same))
 
-find_requires : tie.Need-find-requires
-find_requires c κs = search rules
-
-returns : tie.Need-returns
-returns c = rw c.before.if1.true (nothing_found _ _ _ c.find.ensures)
-
-returns_2 : tie.Need-returns-2
-returns_2 c = search rules
-
-pub ends_here_spec : {M : Type 1} → statement M
-ends_here_spec = tie.close (tie.spec find_requires returns returns_2)
+pub returns-then-openings : goal.returns-then-openings
+returns-then-openings c = rw c.if-openings.true (nothing_found _ _ _ c.find-at.ensures)
