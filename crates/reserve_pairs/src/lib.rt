@@ -1,4 +1,6 @@
 // Amounts in millionths as pairs of floats: whole units and remaining millionths, each exactly a whole number.
+#![tactic(auto)]
+
 ghost use Rattle.std.specs.Prelude.{◌≡◌, ◌*◌, length};
 ghost use Rattle.workbook.specs.Pairs.{whole_units, remaining_millionths, pairs};
 ghost use Rattle.reserve_pairs.specs.ReservePairs.{pair_of};
