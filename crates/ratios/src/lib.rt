@@ -1,4 +1,6 @@
 // The ratios: the three sums of every development year, and the last observed outstandings.
+#![tactic(auto)]
+
 ghost use Rattle.std.specs.Prelude.{◌≡◌, ◌+ℤ◌, ◌*ℤ◌, ◌-◌, ◌≤◌};
 ghost use Rattle.ratios.specs.Ratios.{Readable, DevelopmentRead, FirstYear, FirstOutstandings, DevelopmentYearInput, partial_sums, MovedOn, sums_of, RowAddable, with_row, Summable};
 
