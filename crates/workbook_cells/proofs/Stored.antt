@@ -1,11 +1,14 @@
 -- What is stored of a cell: its amount where that is within 2^53, and else a number that question 5 refuses as it would the amount.
 use mathlib.Core.Path.{◌≡◌, refl, ap, sym, ◌∙◌}
 use mathlib.Core.Bool.{Bool, true, false, cond}
+use mathlib.Core.List.{List}
 use Prim.Native.Nat.{ℕ, ◌≤◌, ◌<◌}
 use native.Mathlib.Omega.{arith}
 use borrow.Author.Tests.{le-leb, leb-false}
 use lib.Dec.{leb, lit<}
 use lib.IntN.{ℤ, pos, ◌+ℤ◌, nat_abs}
+use lib.Ieee.{Float, nan}
+use lib.ListN.{get_or}
 use Rattle.floats.specs.declared.Whole as declared_whole
 use Rattle.floats.specs.declared.Whole.TheVariants as told_whole
 use Rattle.floats.specs.WholeNumbers.{WholeNumber, the, none, whole_number, is_whole}
@@ -13,7 +16,7 @@ use Rattle.floats.specs.Reading.{most_exact, told}
 use Rattle.method.specs.Limits.{greatest_amount}
 use Rattle.method.specs.Tests.{amount_right}
 use Rattle.method.proofs.QuestionFacts.{amount_right_true}
-use Rattle.workbook.specs.Cells.{WorkbookCell, blank, number, amount, whole_or_blank}
+use Rattle.workbook.specs.Cells.{WorkbookCell, blank, number, workbook_cell, amount, whole_or_blank}
 use Rattle.workbook_cells.specs.declared.Amount.{Amount}
 use Rattle.workbook_cells.specs.declared.Amount.TheVariants.{Whole, NotWhole}
 use Rattle.workbook_cells.specs.Conversion.{stored, number_told, amount_told}
@@ -77,3 +80,8 @@ right_as_stored Y i k z = go (leb (nat_abs z) most_exact) refl
     go : (b : Bool) → leb (nat_abs z) most_exact ≡ b → amount_right Y i k (cond b z (greatest_amount +ℤ pos 1)) ≡ amount_right Y i k z
     go true e = refl
     go false e = out_of_range Y i k (greatest_amount +ℤ pos 1) (lit< tt) ∙ sym (out_of_range Y i k z (omega (arith, leb-false (nat_abs z) most_exact e)))
+
+-- ---- At a place of a list
+
+abbrev pub StoredAt : List ℕ → List Float → ℕ → ℤ → Type 0
+StoredAt kinds numbers place figure = figure ≡ stored (amount (workbook_cell (get_or kinds place 0) (get_or numbers place nan)))

@@ -1,4 +1,6 @@
 // The cells of a workbook, converted to amounts.
+#![tactic(auto)]
+
 ghost use Rattle.std.specs.Prelude.{◌≡◌, map, length};
 ghost use Rattle.workbook.specs.Cells.{workbook_cell, amount};
 ghost use Rattle.workbook.specs.Workbook.{amounts_of};
