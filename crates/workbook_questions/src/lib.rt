@@ -1,4 +1,6 @@
 // Questions 11, 12 and 13, each of the cells of a workbook in list order, payments first.
+#![tactic(auto)]
+
 ghost use Rattle.std.specs.Prelude.{◌≡◌, ◌<◌, ◌≤◌, eqb};
 ghost use Rattle.std.specs.Bool.{beq};
 ghost use Rattle.method.specs.Limits.{most_accident_years};
