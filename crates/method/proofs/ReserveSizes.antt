@@ -1,9 +1,9 @@
 -- How large a reserve can be, for any n, where questions 1 to 9 accept: 31 projected figures and an outstanding at most, so that it is one of 64 bits.
 use mathlib.Core.Path.{sym, subst}
-use Prim.Native.Nat.{ℕ, zero, suc, ◌+◌, ◌*◌, ◌-◌, ◌≤◌, ◌<◌}
+use Prim.Native.Nat.{ℕ, zero, suc, ◌*◌, ◌-◌, ◌≤◌, ◌<◌}
 use native.Mathlib.Nat.{le_trans}
 use native.Mathlib.Omega.{arith}
-use lib.IntN.{ℤ, pos, ◌+ℤ◌, nat_abs}
+use lib.IntN.{ℤ, pos, nat_abs}
 use lib.ListN.{length, get_or}
 use Rattle.integers.proofs.RingSolver.{con, ◌:-◌}
 use Rattle.integers.proofs.LinearFacts.{integers}

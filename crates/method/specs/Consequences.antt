@@ -1,5 +1,5 @@
 -- Sentences of document 01 that follow from its definitions, as statements of them.
-use Rattle.std.specs.Prelude.{◌≡◌, List, [], ◌∷◌, ℕ, suc, ◌+◌, ◌-◌, ◌≤◌, ◌<◌, ℤ, pos, ◌*ℤ◌, nat_abs, length, get_or}
+use Rattle.std.specs.Prelude.{◌≡◌, List, [], ◌∷◌, ℕ, suc, ◌+◌, ◌-◌, ◌≤◌, ℤ, pos, ◌*ℤ◌, nat_abs, length, get_or}
 use Rattle.integers.specs.Fraction.{◌over◌, ◌≈◌}
 use Rattle.method.specs.Limits.{one_unit}
 use Rattle.method.specs.Verdicts.{accepted}

@@ -1,6 +1,6 @@
 -- The questions of document 01 in two parts, between which a request of document 02 may put questions of its own.
 -- Laws `questions_in_two`, `asked_before_amounts` and `asked_of_amounts` in proofs/ProofOfDemand1.antt.
-use Rattle.std.specs.Prelude.{List, [], ◌∷◌, ℕ, ◌+◌, ◌-◌, ◌≤◌, ◌<◌, ◌≡◌, ℤ, pos, ◌-ℤ◌, ◌<ℤ◌}
+use Rattle.std.specs.Prelude.{List, [], ◌∷◌, ◌+◌, ◌-◌, ◌≤◌, ◌<◌, ◌≡◌, pos, ◌-ℤ◌, ◌<ℤ◌}
 use Rattle.method.specs.Verdicts.{Verdict, ◌then◌}
 use Rattle.method.specs.Triangle.{Triangle, n, Y, S, T, w}
 use Rattle.method.specs.Outstandings.{R, sums}

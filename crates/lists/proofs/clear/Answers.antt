@@ -1,11 +1,9 @@
 -- Zeros from the left.
-use borrow.Author.Rules.{rules}
-use mathlib.Core.Path.{◌≡◌, refl, sym, ◌∙◌}
-use Prim.Native.Nat.{◌-◌}
+use mathlib.Core.Path.{refl, sym, ◌∙◌}
 use native.Mathlib.Omega.{arith}
 use lib.IntN.{pos}
 use lib.ListN.{length, replicate, length-replicate}
-use Rattle.lists.proofs.Places.{blank, FilledTo, none_filled, one_more_filled, all_filled}
+use Rattle.lists.proofs.Places.{blank, none_filled, one_more_filled, all_filled}
 use Rattle.lists.proofs.clear.Goals as goal
 
 pub loop-j-init : goal.loop-j-init

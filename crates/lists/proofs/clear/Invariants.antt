@@ -1,11 +1,8 @@
 -- Zeros from the left.
-use borrow.Author.Rules.{rules}
-use mathlib.Core.Path.{◌≡◌, refl, sym, ◌∙◌}
+use mathlib.Core.Path.{◌≡◌}
 use Prim.Native.Nat.{◌-◌}
-use native.Mathlib.Omega.{arith}
 use lib.IntN.{pos}
-use lib.ListN.{length, replicate, length-replicate}
-use Rattle.lists.proofs.Places.{blank, FilledTo, none_filled, one_more_filled, all_filled}
+use Rattle.lists.proofs.Places.{FilledTo}
 use Rattle.lists.proofs.clear.Given as goal
 
 abbrev pub invariant-loop-j : goal.invariant-loop-j

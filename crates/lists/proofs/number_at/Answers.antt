@@ -1,5 +1,4 @@
 -- Inside the list, and beyond it.
-use borrow.Author.Rules.{rules}
 use mathlib.Core.Path.{sym}
 use native.Mathlib.Omega.{arith}
 use lib.IntN.{pos}

@@ -2,7 +2,6 @@
 use mathlib.Core.Path.{sym, ◌∙◌}
 use Rattle.method.specs.Verdicts.{nowhere}
 use Rattle.method.proofs.FirstRefusal.{ask_yes, ask_no}
-use borrow.Author.Rules.{rules}
 use Rattle.verdicts.proofs.verdict.asked.Goals as goal
 
 pub returns-then-answer : goal.returns-then-answer

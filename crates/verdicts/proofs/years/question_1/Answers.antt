@@ -1,5 +1,4 @@
 -- One range, as document 01 asks it.
-use borrow.Author.Rules.{rules}
 use mathlib.Core.Path.{ap, ◌∙◌}
 use mir.Facts.{to_z-of_z}
 use Rattle.method.specs.Verdicts.{nowhere, ask}
