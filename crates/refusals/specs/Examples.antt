@@ -1,6 +1,6 @@
 -- Worked examples: what is printed of some refusals. docs/FORMAT.md has the first three lines.
 -- The statement is proved in proofs/Examples.antt by computing it.
-use Rattle.std.specs.Prelude.{true, false, List, [], ◌∷◌, ℕ, pos, neg_ℤ}
+use Rattle.std.specs.Prelude.{true, false, List, [], ◌∷◌, pos, neg_ℤ}
 use Rattle.printed.specs.WorkedLines.{Printed, ◌shows◌, all_of}
 use Rattle.refusals.specs.Sentences.{refused_line, sentence, see_line, see_lines}
 use Rattle.refusals.specs.declared.found.Lent.{Lent}
