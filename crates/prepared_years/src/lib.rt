@@ -1,4 +1,6 @@
 // The development years of a triangle, prepared for any number of shares: what divides is done here, once a call.
+#![tactic(auto)]
+
 ghost use Rattle.std.specs.Prelude.{◌≡◌, [], ◌+◌, ◌≤◌, ◌<◌, nat_abs, length, get_or};
 ghost use Rattle.method.specs.Limits.{most_ratios};
 ghost use Rattle.method.specs.SumLimits.{greatest_sum, SumsInRange};
