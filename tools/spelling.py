@@ -138,9 +138,20 @@ def main():
     OWN_CRATES = set(os.listdir("crates"))
     if "--docs" in sys.argv:
         names = dict(line.rstrip("\n").split("\t") for line in open("tools/spelling.txt", encoding="utf-8"))
-        for path in ["README.md"] + sorted(os.path.join("docs", f) for f in os.listdir("docs") if f.endswith(".md") and f != "PORT.md"):
+        words = set()
+        for path in files((".antt", ".rt")):
+            words |= set(re.findall(r"[\w'₀-₉]+", read(path)))
+
+        def name(m):
+            # what port.py has turned stands in no table, but in the files
+            snake = m.group().replace("-", "_")
+            return names.get(m.group()) or (snake if snake in words else m.group())
+
+        pages = ["README.md", "bench/run", "include/juniperprow.h"] + [os.path.join("docs", f) for f in os.listdir("docs") if f.endswith(".md") and f != "PORT.md"]
+        pages += [os.path.join("docs/changes", f) for f in os.listdir("docs/changes")]
+        for path in pages:
             text = read(path)
-            new = re.sub(r"`[^`\n]*`", lambda m: turned(m.group(), names), text)
+            new = re.sub(r"`[^`\n]*`", lambda m: m.group() if m.group().startswith(("`tools/", "`bash", "`rt ")) else re.sub(r" \.(?=[a-z])", ".", DASHED.sub(name, m.group())), text)
             if new != text:
                 with open(path, "w", encoding="utf-8") as f:
                     f.write(new)
