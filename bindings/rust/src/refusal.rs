@@ -39,18 +39,12 @@ pub enum Question {
     ProjectedFigureTooLarge,
     /// 10: is the cell an unseen one, or the accident year one of the triangle's?
     CellOrAccidentYear,
-    /// 11, after 4: is the kind of every cell of a workbook 0 or 1?
-    KindUnknown,
-    /// 12, after 11: is every number of a workbook finite and whole?
-    NumberNotWhole,
-    /// 13, after 12 and before 5: is every missing cell of a workbook blank, and every other a number?
-    BlankOrNumberMisplaced,
     /// Any other number: a question of a later library, which this version has no name for.
     Unknown(i64),
 }
 
 /// The questions that have a name.
-const QUESTIONS: [Question; 13] = [
+const QUESTIONS: [Question; 10] = [
     Question::NumberOfYears,
     Question::Cut,
     Question::ListLength,
@@ -61,9 +55,6 @@ const QUESTIONS: [Question; 13] = [
     Question::ExposureNotPositive,
     Question::ProjectedFigureTooLarge,
     Question::CellOrAccidentYear,
-    Question::KindUnknown,
-    Question::NumberNotWhole,
-    Question::BlankOrNumberMisplaced,
 ];
 
 impl Question {
@@ -80,9 +71,6 @@ impl Question {
             Question::ExposureNotPositive => 8,
             Question::ProjectedFigureTooLarge => 9,
             Question::CellOrAccidentYear => 10,
-            Question::KindUnknown => 11,
-            Question::NumberNotWhole => 12,
-            Question::BlankOrNumberMisplaced => 13,
             Question::Unknown(number) => number,
         }
     }
@@ -158,18 +146,6 @@ impl fmt::Display for Refusal {
                 formatter,
                 "the cell is not an unseen cell of the triangle, or the accident year is not one of its years"
             ),
-            Question::KindUnknown => write!(
-                formatter,
-                "the kind of the payment or the adjustment at {place} is neither 0 for a blank nor 1 for a number"
-            ),
-            Question::NumberNotWhole => write!(
-                formatter,
-                "the payment or the adjustment at {place} is not a finite whole number"
-            ),
-            Question::BlankOrNumberMisplaced => write!(
-                formatter,
-                "the payment or the adjustment at {place} is blank although the cell is not missing, or a number although it is"
-            ),
             Question::Unknown(number) => write!(
                 formatter,
                 "question {number}, which this version has no name for, was answered with no at {place}"
@@ -216,7 +192,7 @@ mod tests {
     #[test]
     fn questions_have_their_numbers() {
         let numbers: Vec<i64> = QUESTIONS.into_iter().map(Question::number).collect();
-        assert_eq!(numbers, (1..=13).collect::<Vec<i64>>());
+        assert_eq!(numbers, (1..=10).collect::<Vec<i64>>());
     }
 
     #[test]
@@ -234,15 +210,15 @@ mod tests {
 
     #[test]
     fn an_unknown_number_is_a_refusal_that_keeps_it() {
-        for number in [i64::MIN, -1, 14, i64::MAX] {
+        for number in [i64::MIN, -1, 11, i64::MAX] {
             let refusal = result(verdict(number, 3, 7)).unwrap_err();
             assert_eq!(refusal.question, Question::Unknown(number));
             assert_eq!(refusal.question.number(), number);
             assert_eq!(refusal.place.accident_year, 3);
         }
         assert_eq!(
-            sentence(14, 3, 7),
-            "question 14, which this version has no name for, was answered with no at accident year 3, development year 7"
+            sentence(11, 3, 7),
+            "question 11, which this version has no name for, was answered with no at accident year 3, development year 7"
         );
     }
 
@@ -259,11 +235,7 @@ mod tests {
             "the exposure of development year 5 is not above 0",
             "the projected payment, adjustment or outstanding at accident year 2, development year 5 is above 10,000,000,000 units in size",
             "the cell is not an unseen cell of the triangle, or the accident year is not one of its years",
-            "the kind of the payment or the adjustment at accident year 2, development year 5 is neither 0 for a blank nor 1 for a number",
-            "the payment or the adjustment at accident year 2, development year 5 is not a finite whole number",
-            "the payment or the adjustment at accident year 2, development year 5 is blank although the cell is not missing, or a number although it is",
         ];
-        assert_eq!(expected.len(), QUESTIONS.len());
         for (number, expected) in (1..).zip(expected) {
             assert_eq!(sentence(number, 2, 5), expected);
         }
