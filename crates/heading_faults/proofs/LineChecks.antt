@@ -7,8 +7,6 @@ use native.Mathlib.Omega.{arith}
 use borrow.Author.Tests.{eq-eqb, ne_eqb}
 use lib.Dec.{eqb}
 use lib.ListN.{length, drop}
-use types.Run.{OneOf, miss}
-use denote.Enum.Declared.{tag_of}
 use Rattle.line_parts.specs.Cells.{is_empty}
 use Rattle.text.specs.Lines.{lines}
 use Rattle.line_kinds.specs.Kinds.{kind_of}
@@ -22,53 +20,54 @@ use Rattle.heading_faults.specs.declared.FirstFault.TheVariants.{Nothing}
 use Rattle.heading_faults.specs.declared.HeadingFault.TheVariants.{HeadingOnce}
 use Rattle.heading_faults.specs.declared.HeadingFault.{HeadingFault}
 use Rattle.text.proofs.LinesOfText.{no_lines, LineAt}
-use Rattle.line_kinds.specs.contracts.kinds.LineKind.{the_type}
 
 pub empty_by_length : (word : List ℕ) → eqb (length word) 0 ≡ is_empty word
 empty_by_length [] = refl
 empty_by_length (byte ∷ word) = ne_eqb (suc (length word)) 0 (λ e. omega arith)
 
--- ---- The kinds that a match leaves to its last arm, by their numbers
+-- ---- The kinds that a match leaves to its last arm
 
-abbrev others_with_no_words : List ℕ
-others_with_no_words = 0 ∷ 1 ∷ 4 ∷ 5 ∷ 8 ∷ 9 ∷ []
-
-abbrev known_headings : List ℕ
-known_headings = 2 ∷ 3 ∷ 4 ∷ 5 ∷ 6 ∷ 7 ∷ []
-
-pub other_words : (separator : ℕ) (line : List ℕ) (kind : LineKind) → OneOf others_with_no_words (tag_of the_type kind)
+pub other_words : (separator : ℕ) (line : List ℕ) (kind : LineKind)
+    → (kind ≡ Payments → ⊥) → (kind ≡ Adjustments → ⊥) → (kind ≡ Cut → ⊥) → (kind ≡ Cell → ⊥)
     → no_words separator line ≡ words_check separator line kind
-other_words separator line Blank one = refl
-other_words separator line Separators one = refl
-other_words separator line Payments one = absurd (miss others_with_no_words 2 tt one)
-other_words separator line Adjustments one = absurd (miss others_with_no_words 3 tt one)
-other_words separator line Weights one = refl
-other_words separator line Openings one = refl
-other_words separator line Cut one = absurd (miss others_with_no_words 6 tt one)
-other_words separator line Cell one = absurd (miss others_with_no_words 7 tt one)
-other_words separator line Row one = refl
-other_words separator line Unknown one = refl
+other_words separator line Blank no_payments no_adjustments no_cut no_cell = refl
+other_words separator line Separators no_payments no_adjustments no_cut no_cell = refl
+other_words separator line Payments no_payments no_adjustments no_cut no_cell = absurd (no_payments refl)
+other_words separator line Adjustments no_payments no_adjustments no_cut no_cell = absurd (no_adjustments refl)
+other_words separator line Weights no_payments no_adjustments no_cut no_cell = refl
+other_words separator line Openings no_payments no_adjustments no_cut no_cell = refl
+other_words separator line Cut no_payments no_adjustments no_cut no_cell = absurd (no_cut refl)
+other_words separator line Cell no_payments no_adjustments no_cut no_cell = absurd (no_cell refl)
+other_words separator line Row no_payments no_adjustments no_cut no_cell = refl
+other_words separator line Unknown no_payments no_adjustments no_cut no_cell = refl
+
+-- a kind that is neither blank nor of separators, neither a row nor unknown
+pub record KnownHeading (kind : LineKind) : Type 0 where
+  pub not_blank : kind ≡ Blank → ⊥
+  pub not_separators : kind ≡ Separators → ⊥
+  pub not_row : kind ≡ Row → ⊥
+  pub not_unknown : kind ≡ Unknown → ⊥
 
 module _ (separator : ℕ) (all : List (List ℕ)) (number : ℕ) (under : LineKind) (line : List ℕ) where
-  known_heading : (kind : LineKind) → OneOf known_headings (tag_of the_type kind)
+  known_heading : (kind : LineKind) → KnownHeading kind
       → heading_check separator all number under line kind ≡ line_check separator all number under line kind
-  known_heading Blank one = absurd (miss known_headings 0 tt one)
-  known_heading Separators one = absurd (miss known_headings 1 tt one)
-  known_heading Payments one = refl
-  known_heading Adjustments one = refl
-  known_heading Weights one = refl
-  known_heading Openings one = refl
-  known_heading Cut one = refl
-  known_heading Cell one = refl
-  known_heading Row one = absurd (miss known_headings 8 tt one)
-  known_heading Unknown one = absurd (miss known_headings 9 tt one)
+  known_heading Blank known = absurd (known.not_blank refl)
+  known_heading Separators known = absurd (known.not_separators refl)
+  known_heading Payments known = refl
+  known_heading Adjustments known = refl
+  known_heading Weights known = refl
+  known_heading Openings known = refl
+  known_heading Cut known = refl
+  known_heading Cell known = refl
+  known_heading Row known = absurd (known.not_row refl)
+  known_heading Unknown known = absurd (known.not_unknown refl)
 
-  module _ (kind : LineKind) (one : OneOf known_headings (tag_of the_type kind)) (found : ℕ) (is : found ≡ line_number separator kind all) where
+  module _ (kind : LineKind) (known : KnownHeading kind) (found : ℕ) (is : found ≡ line_number separator kind all) where
     pub first_of_its_kind : found ≡ number → words_check separator line kind ≡ line_check separator all number under line kind
-    first_of_its_kind here = rw (eq-eqb _ _ (sym is ∙ here)) at (known_heading kind one)
+    first_of_its_kind here = rw (eq-eqb _ _ (sym is ∙ here)) at (known_heading kind known)
 
     pub second_of_its_kind : (found ≡ number → ⊥) → Wrong HeadingOnce ≡ line_check separator all number under line kind
-    second_of_its_kind here_not = rw (ne_eqb _ _ (λ e. here_not (is ∙ e))) at (known_heading kind one)
+    second_of_its_kind here_not = rw (ne_eqb _ _ (λ e. here_not (is ∙ e))) at (known_heading kind known)
 
 -- ---- All lines
 

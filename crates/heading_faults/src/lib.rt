@@ -1,4 +1,6 @@
 // The first fault of the headings of a text, and of rows that stand under none.
+#![tactic(auto)]
+
 ghost use Rattle.std.specs.Prelude.{◌≡◌};
 ghost use Rattle.text.specs.Lines.{lines};
 ghost use Rattle.heading_faults.specs.Faults as meaning;
