@@ -1,4 +1,6 @@
 // The share and the halves of products, as a benchmark links them.
+#![tactic(auto)]
+
 ghost use Rattle.std.specs.Prelude.{◌≡◌, map, ◌*◌, ◌/◌, ◌%◌, ◌^◌, pos};
 ghost use Rattle.method.specs.ProjectedYear.{share};
 ghost use Rattle.prepared_ratios.specs.Ratio.{Ready, part_of};
