@@ -20,41 +20,52 @@ negative : (c : Then-part-lt0) → lt_z c.args.part (pos 0) ≡ true
 negative c = simp (to_z-of_z {w = w64} c.ranges.part) at c.if-part-lt0.true
 
 pub overflow_sub-part : goal.overflow_sub-part
-overflow_sub-part c = simp (to_z-of_z c.ranges.part) (downward_fits c.args.part (negative (goal.at.overflow_sub-part c).Then-part-lt0) c.requires.1)
+overflow_sub-part c =
+    let below = negative (goal.at.overflow_sub-part c).Then-part-lt0 in
+    simp (to_z-of_z c.ranges.part) (downward_fits c.args.part below c.requires.1)
 
 pub overflow_cast-part : goal.overflow_cast-part
 overflow_cast-part c =
-    simp (to_z-of_z c.ranges.part, to_z-of_z (downward_fits c.args.part (negative (goal.at.overflow_cast-part c).Then-part-lt0) c.requires.1)) (downward_unsigned c.args.part (negative (goal.at.overflow_cast-part c).Then-part-lt0) c.requires.1)
+    let below = negative (goal.at.overflow_cast-part c).Then-part-lt0 in
+    simp (to_z-of_z c.ranges.part, to_z-of_z (downward_fits c.args.part below c.requires.1)) (downward_unsigned c.args.part below c.requires.1)
 
 pub divide-downward-requires : goal.divide-downward-requires
 divide-downward-requires c =
-    simp (to_z-of_z c.ranges.part, to_z-of_z (downward_fits c.args.part (negative (goal.at.divide-downward-requires c).Then-part-lt0) c.requires.1)) (c.requires.0, downward-≤ c.args.part (negative (goal.at.divide-downward-requires c).Then-part-lt0) c.requires.1)
+    let below = negative (goal.at.divide-downward-requires c).Then-part-lt0 in
+    simp (to_z-of_z c.ranges.part, to_z-of_z (downward_fits c.args.part below c.requires.1)) (c.requires.0, downward-≤ c.args.part below c.requires.1)
 
-downward : (c : After-divide-downward) → let a = c.args in Division (nat_abs (negsuc 0 -ℤ a.part)) a.exposure c.divide-downward.result
-downward c =
-    simp (to_z-of_z c.ranges.part, to_z-of_z (downward_fits c.args.part (let negative' : lt_z c.args.part (pos 0) ≡ true = simp (to_z-of_z {w = w64} c.ranges.part) at c.if-part-lt0.true in negative') c.requires.1)) at c.divide-downward.ensures
+downward : (c : After-divide-downward) → lt_z c.args.part (pos 0) ≡ true → let a = c.args in Division (nat_abs (negsuc 0 -ℤ a.part)) a.exposure c.divide-downward.result
+downward c below = simp (to_z-of_z c.ranges.part, to_z-of_z (downward_fits c.args.part below c.requires.1)) at c.divide-downward.ensures
 
-quotient_small : (c : After-divide-downward) → c.divide-downward.result.quotient < 2 ^ 63
-quotient_small c =
-    omega (arith, quotient-≤ c.requires.0.exposed.positive (downward c), downward-≤ c.args.part (let negative' : lt_z c.args.part (pos 0) ≡ true = simp (to_z-of_z {w = w64} c.ranges.part) at c.if-part-lt0.true in negative') c.requires.1)
+quotient_small : (c : After-divide-downward) → lt_z c.args.part (pos 0) ≡ true → c.divide-downward.result.quotient < 2 ^ 63
+quotient_small c below = omega (arith, quotient-≤ c.requires.0.exposed.positive (downward c below), downward-≤ c.args.part below c.requires.1)
 
-floored : (c : After-divide-downward) → let a = c.args in
+floored : (c : After-divide-downward) → lt_z c.args.part (pos 0) ≡ true → let a = c.args in
     FloorOf a.part a.exposure (record { quotient = negsuc 0 -ℤ pos c.divide-downward.result.quotient; remainder = a.exposure - 1 - c.divide-downward.result.remainder })
-floored c = floor_downward c.args.part (let negative' : lt_z c.args.part (pos 0) ≡ true = simp (to_z-of_z {w = w64} c.ranges.part) at c.if-part-lt0.true in negative') c.requires.0.exposed.positive (downward c)
+floored c below = floor_downward c.args.part below c.requires.0.exposed.positive (downward c below)
 
 pub overflow_cast-result : goal.overflow_cast-result
-overflow_cast-result c = record { sfits = quotient_small (goal.at.overflow_cast-result c).After-divide-downward }
+overflow_cast-result c =
+    let at = goal.at.overflow_cast-result c in
+    record { sfits = quotient_small at.After-divide-downward (negative at.Then-part-lt0) }
 
 pub overflow_sub-result : goal.overflow_sub-result
-overflow_sub-result c = rw (to_z_pos w64 (quotient_small (goal.at.overflow_sub-result c).After-divide-downward)) (floored_fits c.requires.1 (floored (goal.at.overflow_sub-result c).After-divide-downward))
+overflow_sub-result c =
+    let at = goal.at.overflow_sub-result c in
+    let below = negative at.Then-part-lt0 in
+    rw (to_z_pos w64 (quotient_small at.After-divide-downward below)) (floored_fits c.requires.1 (floored at.After-divide-downward below))
 
 pub overflow_sub-result-then-part-lt0-2 : goal.overflow_sub-result-then-part-lt0-2
 overflow_sub-result-then-part-lt0-2 c =
-    omega (arith, remainder-< c.requires.0.exposed.positive (downward (goal.at.overflow_sub-result-then-part-lt0-2 c).After-divide-downward))
+    let at = goal.at.overflow_sub-result-then-part-lt0-2 c in
+    omega (arith, remainder-< c.requires.0.exposed.positive (downward at.After-divide-downward (negative at.Then-part-lt0)))
 
 pub returns-then-part-lt0 : goal.returns-then-part-lt0
 returns-then-part-lt0 c =
-    rw (to_z_pos w64 (quotient_small (goal.at.returns-then-part-lt0 c).After-divide-downward), to_z-of_z (floored_fits c.requires.1 (floored (goal.at.returns-then-part-lt0 c).After-divide-downward))) (floored (goal.at.returns-then-part-lt0 c).After-divide-downward)
+    let at = goal.at.returns-then-part-lt0 c in
+    let below = negative at.Then-part-lt0 in
+    let whole = floored at.After-divide-downward below in
+    rw (to_z_pos w64 (quotient_small at.After-divide-downward below), to_z-of_z (floored_fits c.requires.1 whole)) whole
 
 -- ---- A part that is not negative
 
@@ -80,4 +91,6 @@ overflow_cast-result-2 c = record { sfits = quotient_small_2 (goal.at.overflow_c
 
 pub returns : goal.returns
 returns c =
-    rw (to_z_pos w64 (quotient_small_2 (goal.at.returns c).After-divide-upward)) (floor_upward c.args.part (not_negative (goal.at.returns c).Else-part-lt0) c.requires.0.exposed.positive (upward (goal.at.returns c).After-divide-upward))
+    let at = goal.at.returns c in
+    rw (to_z_pos w64 (quotient_small_2 at.After-divide-upward))
+    (floor_upward c.args.part (not_negative at.Else-part-lt0) c.requires.0.exposed.positive (upward at.After-divide-upward))
