@@ -1,4 +1,6 @@
 // The state of an accident year as it is projected, year by year.
+#![tactic(auto)]
+
 ghost use Rattle.std.specs.Prelude.{◌≡◌, ◌+◌, ◌-◌, ◌≤◌, pos, ◌+ℤ◌, ◌≤ℤ◌};
 ghost use Rattle.method.specs.Limits.{greatest_outstanding, most_accident_years};
 ghost use Rattle.method.specs.Triangle.{entry};
