@@ -1,2 +1,4 @@
 // The completed triangle, line by line.
+#![tactic(auto)]
+
 pub mod completed_rows;
