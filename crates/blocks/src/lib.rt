@@ -1,4 +1,6 @@
 // The rows under a heading, read into a list that a call lends, and the weights where a text gives none.
+#![tactic(auto)]
+
 pub mod faults;
 pub mod lines;
 pub mod weights;
