@@ -16,5 +16,5 @@ returns-then-x-lt0 c =
 pub returns : goal.returns
 unfolding outstanding_sentence
 returns c =
-    let not-below = simp (to_z-of_z {w = w64} c.ranges.x) at c.if-x-lt0.false in
-    rw not-below (simp (to_z-of_z {w = w64} c.ranges.i, to_z-of_z {w = w64} c.ranges.k, to_z-of_z {w = w64} c.ranges.x) at c.filled_3.ensures)
+    let not_below = simp (to_z-of_z {w = w64} c.ranges.x) at c.if-x-lt0.false in
+    rw not_below (simp (to_z-of_z {w = w64} c.ranges.i, to_z-of_z {w = w64} c.ranges.k, to_z-of_z {w = w64} c.ranges.x) at c.filled_3.ensures)
