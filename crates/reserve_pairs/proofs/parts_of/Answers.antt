@@ -40,12 +40,12 @@ pub nonzero_rem-millionths : goal.nonzero_rem-millionths
 nonzero_rem-millionths c = (lit< tt, quotient_fits c.ranges.amount)
 
 pub overflow_sub-result : goal.overflow_sub-result
-overflow_sub-result c = let f = c.ranges.amount in small_sum_fits (held_units f) (negsuc 0) (small_held_units f) (lit≤ tt)
+overflow_sub-result c = let f = c.ranges.amount in small_sum_fits (held_units f) _ (small_held_units f) (lit≤ tt)
 
 pub overflow_add-result : goal.overflow_add-result
 overflow_add-result c =
     let f = c.ranges.amount in
-    small_sum_fits (held_millionths f) one_unit (small_held_millionths f) (lit≤ tt)
+    small_sum_fits (held_millionths f) _ (small_held_millionths f) (lit≤ tt)
 
 pub returns-then-millionths-lt0 : goal.returns-then-millionths-lt0
 returns-then-millionths-lt0 c =
