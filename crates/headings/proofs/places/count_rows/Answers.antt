@@ -1,8 +1,7 @@
 -- The rows so far and those from the line on that is read next are all; each turn passes a line.
 use mathlib.Core.Path.{◌≡◌, sym, ap, ◌∙◌}
-use Prim.Native.Nat.{◌+◌, ◌<◌}
+use Prim.Native.Nat.{◌+◌}
 use native.Mathlib.Omega.{arith}
-use lib.ListN.{length}
 use Rattle.line_kinds.specs.Kinds.{kind_of, is_heading, same_kind}
 use Rattle.line_kinds.specs.declared.kinds.LineKind.TheVariants.{Row}
 use Rattle.text.proofs.LinesOfText.{LineAt, line_and_others, line_read}
@@ -10,12 +9,10 @@ use Rattle.headings.proofs.RowCounts.{count_begins, count_row, count_other, all_
 use Rattle.headings.proofs.places.count_rows.Goals as goal
 use Rattle.headings.proofs.places.count_rows.Goals.{After-first_line, After-first_line_length-start, After-is_heading, After-same_kind, then-same_kind, else-same_kind}
 
-more_left : (c : After-first_line) → c.loop-start.start < length c.args.text.now
-more_left c = c.loop-start-test.true
-
-read : (c : After-first_line_length-start) → LineAt c.args.text.now c.loop-start.start c.first_line.result.now (c.loop-start.start + c.first_line_length-start.result)
+read : (c : After-first_line_length-start) → let start = c.loop-start.start in
+    LineAt c.args.text.now start c.first_line.result.now (start + c.first_line_length-start.result)
 read c =
-    line_read c.args.text.now c.loop-start.start c.first_line.result.now c.first_line.ensures (let more_left' : c.loop-start.start < length c.args.text.now = c.loop-start-test.true in more_left')
+    line_read c.args.text.now c.loop-start.start c.first_line.result.now c.first_line.ensures c.loop-start-test.true
     c.first_line_length-start.result c.first_line_length-start.ensures
 
 told_heading : (c : After-is_heading) → c.is_heading.result ≡ is_heading (kind_of c.args.separator c.first_line.result.now)
@@ -36,9 +33,11 @@ slice_bounds-first_line-start c = c.loop-start.invariant.within
 pub returns-then-is_heading : goal.returns-then-is_heading
 returns-then-is_heading c =
     let args = c.args in
-    let parts = line_and_others c.args.text.now c.loop-start.start c.first_line.result.now c.first_line.ensures (more_left (goal.at.returns-then-is_heading c).After-first_line) in
-    all_counted c.args.text.now args.separator args.from c.loop-start.rows c.loop-start.start c.loop-start.invariant
-    (no_rows_from_heading args.separator _ c.first_line.result.now _ parts (sym (told_heading (goal.at.returns-then-is_heading c).After-is_heading) ∙ c.if-is_heading.true))
+    let turn = c.loop-start in
+    let line = c.first_line.result.now in
+    let parts = line_and_others args.text.now turn.start line c.first_line.ensures c.loop-start-test.true in
+    all_counted args.text.now args.separator args.from turn.rows turn.start turn.invariant
+    (no_rows_from_heading args.separator _ line _ parts (sym (told_heading (goal.at.returns-then-is_heading c).After-is_heading) ∙ c.if-is_heading.true))
 
 pub slice_bounds-first_line_length-count : goal.slice_bounds-first_line_length-count
 slice_bounds-first_line_length-count c = c.loop-start.invariant.within

@@ -1,4 +1,4 @@
--- The rows so far and those from the line on that is read next are all; each turn-of passes a line.
+-- The rows so far and those from the line on that is read next are all; each turn passes a line.
 use Prim.Native.Nat.{◌-◌}
 use lib.ListN.{length}
 use Rattle.headings.proofs.RowCounts.{CountedTo}

@@ -1,4 +1,4 @@
--- The text from the line on that is read next has the heading of the whole text; each turn-of passes a line.
+-- The text from the line on that is read next has the heading of the whole text; each turn passes a line.
 use mathlib.Core.Path.{◌≡◌, sym, ap, ◌∙◌}
 use Prim.Native.Nat.{◌+◌}
 use native.Mathlib.Omega.{arith}
@@ -8,10 +8,11 @@ use Rattle.headings.proofs.HeadingSearch.{search_begins, search_goes_on, heading
 use Rattle.headings.proofs.places.find_heading.Goals as goal
 use Rattle.headings.proofs.places.find_heading.Goals.{After-first_line_length, After-same_kind}
 
-read : (c : After-first_line_length)
-    → LineAt c.args.text.now c.loop-start.start c.first_line.result.now (c.loop-start.start + c.first_line_length.result)
+read : (c : After-first_line_length) → let start = c.loop-start.start in
+    LineAt c.args.text.now start c.first_line.result.now (start + c.first_line_length.result)
 read c =
-    line_read c.args.text.now c.loop-start.start c.first_line.result.now c.first_line.ensures c.loop-start-test.true c.first_line_length.result c.first_line_length.ensures
+    line_read c.args.text.now c.loop-start.start c.first_line.result.now c.first_line.ensures c.loop-start-test.true
+    c.first_line_length.result c.first_line_length.ensures
 
 told : (c : After-same_kind) → let args = c.args in
     c.same_kind.result ≡ same_kind (kind_of args.separator c.first_line.result.now) args.heading
@@ -37,19 +38,26 @@ slice_bounds-first_line_length-start c = c.loop-start.invariant.within
 pub returns-then-same_kind : goal.returns-then-same_kind
 returns-then-same_kind c =
     let args = c.args in
-    heading_found c.args.text.now args.separator args.heading c.loop-start.line c.loop-start.start c.loop-start.invariant c.first_line.result.now _ (read (goal.at.returns-then-same_kind c).After-first_line_length)
+    let turn = c.loop-start in
+    heading_found args.text.now args.separator args.heading turn.line turn.start turn.invariant c.first_line.result.now _
+    (read (goal.at.returns-then-same_kind c).After-first_line_length)
     (sym (told (goal.at.returns-then-same_kind c).After-same_kind) ∙ c.if-same_kind.true)
 
 pub loop-start-smaller : goal.loop-start-smaller
-loop-start-smaller c = omega (arith, (read (goal.at.loop-start-smaller c).After-first_line_length).within, (read (goal.at.loop-start-smaller c).After-first_line_length).further)
+loop-start-smaller c =
+    let passed = read (goal.at.loop-start-smaller c).After-first_line_length in
+    omega (arith, passed.within, passed.further)
 
 pub loop-start-preserved : goal.loop-start-preserved
 loop-start-preserved c =
     let args = c.args in
-    search_goes_on c.args.text.now args.separator args.heading c.loop-start.line c.loop-start.start c.loop-start.invariant c.first_line.result.now _ (read (goal.at.loop-start-preserved c).After-first_line_length)
+    let turn = c.loop-start in
+    search_goes_on args.text.now args.separator args.heading turn.line turn.start turn.invariant c.first_line.result.now _
+    (read (goal.at.loop-start-preserved c).After-first_line_length)
     (sym (told (goal.at.loop-start-preserved c).After-same_kind) ∙ c.if-same_kind.false)
 
 pub returns : goal.returns
 returns c =
     let args = c.args in
-    heading_not_found args.text.now args.separator args.heading c.loop-start.line c.loop-start.start c.loop-start.invariant (omega arith)
+    let turn = c.loop-start in
+    heading_not_found args.text.now args.separator args.heading turn.line turn.start turn.invariant (omega arith)

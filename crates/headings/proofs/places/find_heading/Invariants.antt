@@ -1,4 +1,4 @@
--- The text from the line on that is read next has the heading of the whole text; each turn-of passes a line.
+-- The text from the line on that is read next has the heading of the whole text; each turn passes a line.
 use Prim.Native.Nat.{◌-◌}
 use lib.ListN.{length}
 use Rattle.headings.proofs.HeadingSearch.{SearchedTo}
