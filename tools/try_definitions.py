@@ -87,9 +87,9 @@ def row(name, call, number, place, lists):
     answer = lists or ([0] * future, [0] * reserves)
     return (
         f"abbrev pub {name} : Example\n{name} = record {{ triangle = triangle ({whole(n)}) {listed(payments)}"
-        f" {listed(adjustments)} {listed(weights)} ({whole(cut)}) {listed(openings)}; future-room = {future};"
-        f" reserves-room = {reserves}; wanted = record {{ number = {number}; accident-year = {whole(place[0])};"
-        f" development-year = {whole(place[1])}; future = {listed(answer[0])}; reserves = {listed(answer[1])} }} }}\n"
+        f" {listed(adjustments)} {listed(weights)} ({whole(cut)}) {listed(openings)}; future_room = {future};"
+        f" reserves_room = {reserves}; wanted = record {{ number = {number}; accident_year = {whole(place[0])};"
+        f" development_year = {whole(place[1])}; future = {listed(answer[0])}; reserves = {listed(answer[1])} }} }}\n"
     )
 
 
@@ -97,7 +97,7 @@ def main():
     count = int(sys.argv[1]) if len(sys.argv) > 1 else 100
     seed = int(sys.argv[2]) if len(sys.argv) > 2 else 1
     rng = random.Random(seed)
-    numbers, rows, names = Counter(), [], [f"call-{at}" for at in range(count)]
+    numbers, rows, names = Counter(), [], [f"call_{at}" for at in range(count)]
     for name in names:
         call = accepted_looking(rng)
         if rng.random() < 0.5:
@@ -109,16 +109,17 @@ def main():
         rows.append(row(name, call, number, place, lists))
     with tempfile.TemporaryDirectory() as folder:
         copy = Path(folder)
-        shutil.copytree(TOP / "crates", copy / "crates")
-        shutil.copy(TOP / "crates.txt", copy)
+        for crate in ("integers", "method"):
+            shutil.copytree(TOP / "crates" / crate, copy / "crates" / crate)
+        (copy / "crates.txt").write_text("integers:\nmethod: integers\n")
         examples = copy / "crates/method/specs/Examples.antt"
         text = examples.read_text()
-        table = f"\nabbrev pub random-calls : List Example\nrandom-calls = {' ∷ '.join([*names, '[]'])}\n"
+        table = f"\nabbrev pub random_calls : List Example\nrandom_calls = {' ∷ '.join([*names, '[]'])}\n"
         examples.write_text(text + "\n" + "\n".join(rows) + table)
         proof = copy / "crates/method/proofs/Examples.antt"
-        text = proof.read_text().replace("specs.Examples.{", "specs.Examples.{random-calls, ")
-        proof.write_text(text + "\npub random-calls-hold : Hold random-calls\nunfolding computed\nrandom-calls-hold = refl\n")
-        run = subprocess.run(["rt", "check", "method"], cwd=copy, capture_output=True, text=True)
+        text = proof.read_text().replace("specs.Examples.{", "specs.Examples.{random_calls, ")
+        proof.write_text(text + "\npub random_calls_hold : Hold random_calls\nunfolding computed\nrandom_calls_hold = refl\n")
+        run = subprocess.run(["rt", "check"], cwd=copy / "crates/method", capture_output=True, text=True)
     print(f"seed {seed}, calls by number:", dict(sorted(numbers.items())))
     if run.returncode != 0:
         print(run.stdout + run.stderr)

@@ -4,10 +4,9 @@
     tools/try_edit.py CRATE EDIT          such as: tools/try_edit.py method halves_away_from_zero
     tools/try_edit.py CRATE FILE OLD NEW  an edit of your own: OLD, which stands once in crates/CRATE/FILE, becomes NEW
 
-What target/ holds of earlier checks is used, so that only the crate itself is proved again. Nothing here is changed.
+What crates/*/out hold of earlier checks is used, so that only the crate itself is proved again. Nothing here is changed.
 The exit status is 0 where the edit is refused, 1 where it is accepted, and 2 where there is no such edit or no verdict.
 """
-import os
 import re
 import shutil
 import subprocess
@@ -19,9 +18,10 @@ from pathlib import Path
 REPOSITORY = Path(__file__).resolve().parent.parent
 CRATES = REPOSITORY / "crates"
 
-# In what the checker prints: the word before an error, the fact that it is about, and the modules before a name.
+# In what the checker prints: the word before an error, the fact that it is about, a goal that is left open, and the modules before a name.
 ERROR = re.compile(r" error(\[[a-z-]+\])?: ")
 FACT = re.compile(r" error: `([^`]+)`")
+OPEN = re.compile(r"it is not proved that .*\(`([^`]+)`\)")
 MODULES = re.compile(r"(?:[A-Za-z_][\w·-]*\.)+(?=[\w«])")
 
 
@@ -70,8 +70,8 @@ def refusal(output):
     lines = output.splitlines()
     # An error that only waits for another fact comes last, after what is missing where a proof was made by the checker.
     errors = [at for at, line in enumerate(lines) if ERROR.search(line)]
-    told = [at for at in errors if "was not admitted" not in lines[at]]
-    missing = [at for at, line in enumerate(lines) if line.startswith("note: ") and "it is not proved that" in line]
+    told = [at for at in errors if not re.search(" not checked: |was not admitted", lines[at])]
+    missing = [at for at, line in enumerate(lines) if line.startswith("note: ") and OPEN.search(line)]
     if not told + missing + errors:
         return output[-800:]
     start = end = (told + missing + errors)[0]
@@ -84,7 +84,11 @@ def refusal(output):
     fact, printed, difference = shown.partition(": as printed, ")
     if printed:
         shown = f"{fact}: {difference.split(' computed as far as they go, ')[-1]}"
-    shown = f"{where}: {textwrap.shorten(shown, 700, placeholder=' ...')}"
+    shown = f"{where.removeprefix('./')}: {textwrap.shorten(shown, 700, placeholder=' ...')}"
+    goal = OPEN.search(whole)
+    wanted = [line.partition(" must prove: ")[2] for line in lines if goal and line.startswith(f"note: `{goal[1]}` of ")]
+    if any(wanted):
+        shown += f"\nIt must prove: {textwrap.shorten(MODULES.sub('', next(filter(None, wanted))), 700, placeholder=' ...')}"
     others = list(dict.fromkeys(fact[1] for at in told if (fact := FACT.search(lines[at]))))[1:]
     return f"{shown}\nNor do these hold: {', '.join(others)}" if others else shown
 
@@ -94,7 +98,7 @@ def try_edit(crate, reason, file, pairs):
     with tempfile.TemporaryDirectory() as folder:
         copy = Path(folder) / "repository"
         copy.mkdir()
-        for name in ("crates", "crates.txt", "target"):
+        for name in ("crates", "crates.txt"):
             source = REPOSITORY / name
             try:
                 if source.is_dir():
@@ -107,7 +111,7 @@ def try_edit(crate, reason, file, pairs):
         print(f"{reason}\ncrates/{crate}/{file}")
         for old, new in pairs:
             print(f"  - {old.strip()}\n  + {new.strip()}")
-        checked = subprocess.run(["rt", "check", crate], cwd=copy, capture_output=True, text=True, env={**os.environ, "RT_CUT": "0"})
+        checked = subprocess.run(["rt", "check"], cwd=copy / "crates" / crate, capture_output=True, text=True)
         output = (checked.stdout + checked.stderr).replace(f"{copy}/", "")
     if checked.returncode > 1:
         wrong(f"The checker gave no verdict. {output[-800:]}")
