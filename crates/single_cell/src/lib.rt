@@ -1,4 +1,6 @@
 // One unseen cell alone.
+#![tactic(auto)]
+
 ghost use Rattle.std.specs.Prelude.{◌≡◌, ◌+◌, ◌-◌, ◌<◌};
 ghost use Rattle.method.specs.RunOff.{O, movement};
 ghost use Rattle.method.specs.Verdicts.{accepted};
