@@ -1,15 +1,17 @@
-// The C interface: the calls of a host, as include/juniperprow.h declares them. A list is a pointer and then a count.
+// The calls of a host, as include/juniperprow.h declares them; crate juniperprow_c exports them to C. There a list is a pointer and then a count.
+#![tactic(auto)]
+
 ghost use Rattle.std.specs.Prelude.{◌≡◌, length};
 ghost use Rattle.verdicts.specs.Verdicts.{verdict_of};
 ghost use Rattle.questions.specs.Inputs.{triangle_of};
-ghost use Rattle.workbook_reserve.specs.Workbooks.{workbook_of};
-ghost use Rattle.juniperprow.specs.HostAnswers.{verdict_answer, ReserveAnswered, WorkbookAnswered, CellAnswered, RowAnswered};
+ghost use Rattle.juniperprow.specs.HostAnswers.{verdict_answer, ReserveAnswered, CellAnswered, RowAnswered};
+
+pub mod from_workbook;
 
 use calls::reserve::reserve;
 use rows::{AmountList, row_verdict};
 use single_cell::single_cell;
 use verdicts::verdict::Verdict;
-use workbook_reserve::reserve::workbook_reserve;
 
 // The number of the question that refused the call, and the place; all 0 where it is accepted. In C: juniperprow_verdict.
 #[repr(C)]
@@ -31,8 +33,7 @@ pub struct CellAnswer {
 }
 
 // Fills both answer lists, and answers the verdict. A refused call leaves zeros throughout both.
-#[unsafe(no_mangle)]
-pub extern "C" fn juniperprow_reserve<'a>(
+pub fn juniperprow_reserve<'a>(
     years: i64,
     cut: i64,
     payments: &'a [i64],
@@ -59,43 +60,8 @@ pub extern "C" fn juniperprow_reserve<'a>(
     verdict_answer(verdict)
 }
 
-// Fills the future list and the reserves as pairs of floats, from a workbook's cells, and answers the verdict. A refused call leaves zeros throughout both.
-#[unsafe(no_mangle)]
-pub extern "C" fn juniperprow_workbook_reserve<'a>(
-    years: i64,
-    cut: i64,
-    payment_kinds: &'a [u8],
-    payments: &'a [f64],
-    adjustment_kinds: &'a [u8],
-    adjustments: &'a [f64],
-    weights: &'a [i64],
-    openings: &'a [i64],
-    future: &mut [i64],
-    reserve_pairs: &mut [f64],
-) -> VerdictAnswer
-    ensures { WorkbookAnswered
-        (workbook_of years cut payment_kinds.now payments.now adjustment_kinds.now adjustments.now
-        weights.now openings.now)
-        (length future.old) (length reserve_pairs.old) result future.new reserve_pairs.new }
-{
-    let verdict = workbook_reserve(
-        years,
-        cut,
-        payment_kinds,
-        payments,
-        adjustment_kinds,
-        adjustments,
-        weights,
-        openings,
-        future,
-        reserve_pairs,
-    );
-    verdict_answer(verdict)
-}
-
 // The verdict on one unseen cell alone, and its three figures. A refused cell holds zeros.
-#[unsafe(no_mangle)]
-pub extern "C" fn juniperprow_single_cell<'a>(
+pub fn juniperprow_single_cell<'a>(
     years: i64,
     cut: i64,
     payments: &'a [i64],
@@ -130,8 +96,7 @@ pub extern "C" fn juniperprow_single_cell<'a>(
 }
 
 // The verdict on the row of an accident year, whichever list it is taken from.
-#[unsafe(no_mangle)]
-pub extern "C" fn juniperprow_row_verdict<'a>(
+pub fn juniperprow_row_verdict<'a>(
     years: i64,
     payments: &'a [i64],
     adjustments: &'a [i64],
