@@ -1,10 +1,11 @@
 -- A scan of one row, cell by cell.
+use borrow.Author.Rules.{rules}
 use mathlib.Core.Path.{◌≡◌, ap, sym, ◌∙◌}
 use Prim.Native.Nat.{◌+◌}
 use native.Mathlib.Omega.{arith}
 use lib.IntN.{pos}
 use lib.ListN.{get_or}
-use Rattle.integers.proofs.MachineArithmetic.{held}
+use Rattle.integers.proofs.MachineArithmetic.{Held}
 use Rattle.method.specs.Verdicts.{refused, at}
 use Rattle.method.proofs.FirstRefusal.{none_asked, next_accepted, next_refused, all_accepted}
 use Rattle.cells.specs.Cells.{passes, row_of_list}
@@ -18,8 +19,7 @@ loop-j-init c = none_asked _ _
 -- the test of the cell at hand
 tested : (c : After-cell_passes) → let s = c.args in let j = c.loop-j.j in
     c.cell_passes.result ≡ passes s.test s.cut s.i (j + 1) (get_or s.row.now j (pos 0))
-tested c = simp (held (get_or c.args.row.now c.loop-j.j (pos 0)) c.cell_passes-arg-1.given)
-    at c.cell_passes.ensures
+tested c = let read : Held (get_or c.args.row.now c.loop-j.j (pos 0)) = search rules in simp read at c.cell_passes.ensures
 
 pub returns-then-not-cell_passes : goal.returns-then-not-cell_passes
 unfolding row_of_list

@@ -17,16 +17,16 @@ one : (c : After-question_1-first) → verdict_of c.question_1-first.result ≡ 
 one c = simp (to_z-of_z c.ranges.years) at c.question_1-first.ensures
 
 passed_one : (c : In-Accepted) → question_1 c.args.years ≡ accepted
-passed_one c = sym (let one' : verdict_of c.question_1-first.result ≡ question_1 c.args.years = simp (to_z-of_z c.ranges.years) at c.question_1-first.ensures in one') ∙ ap verdict_of c.in-Accepted.is
+passed_one c = sym (one c.before) ∙ ap verdict_of c.in-Accepted.is
 
 two : (c : After-question_2-second) → verdict_of c.question_2-second.result ≡ question_2 c.args.years c.args.cut
 two c = simp (to_z-of_z c.ranges.years, to_z-of_z c.ranges.cut) at c.question_2-second.ensures
 
 passed_two : (c : In-Accepted-second) → question_2 c.args.years c.args.cut ≡ accepted
-passed_two c = sym (let two' : verdict_of c.question_2-second.result ≡ question_2 c.args.years c.args.cut = simp (to_z-of_z c.ranges.years, to_z-of_z c.ranges.cut) at c.question_2-second.ensures in two') ∙ ap verdict_of c.in-Accepted-second.is
+passed_two c = sym (two c.before) ∙ ap verdict_of c.in-Accepted-second.is
 
 years : (c : In-Accepted-second) → YearsInRange c.args.years
-years c = years_accepted _ (let passed_one' : question_1 c.args.years ≡ accepted = sym (let one' : verdict_of c.question_1-first.result ≡ question_1 c.args.years = simp (to_z-of_z c.ranges.years) at c.question_1-first.ensures in one') ∙ ap verdict_of c.in-Accepted.is in passed_one')
+years c = years_accepted _ (passed_one c.before.before)
 
 cut : (c : In-Accepted-second) → CutInRange c.args.cut (nat_abs c.args.years)
 cut c = cut_accepted _ _ (years c) (passed_two c)
@@ -38,18 +38,27 @@ pub question_2-second-requires : goal.question_2-second-requires
 question_2-second-requires c = simp (to_z-of_z c.ranges.years) (passed_one (goal.at.question_2-second-requires c).In-Accepted)
 
 pub returns-in_default-second : goal.returns-in_default-second
-returns-in_default-second c = went_on (passed_one (goal.at.returns-in_default-second c).In-Accepted) (stopped _ (two (goal.at.returns-in_default-second c).After-question_2-second) (ap verdict_of c.in_default-second.is))
+returns-in_default-second c =
+    let here = goal.at.returns-in_default-second c in
+    went_on (passed_one here.In-Accepted) (stopped _ (two here.After-question_2-second) (ap verdict_of c.in_default-second.is))
 
 pub overflow_cast-years : goal.overflow_cast-years
-overflow_cast-years c = simp (to_z-of_z c.ranges.years) (count_fits c.args.years (years (goal.at.overflow_cast-years c).In-Accepted-second).counted (years (goal.at.overflow_cast-years c).In-Accepted-second).most)
+overflow_cast-years c =
+    let here = goal.at.overflow_cast-years c in
+    simp (to_z-of_z c.ranges.years) (count_fits c.args.years (years here.In-Accepted-second).counted (years here.In-Accepted-second).most)
 
 pub overflow_cast-cut : goal.overflow_cast-cut
-overflow_cast-cut c = simp (to_z-of_z c.ranges.cut) (count_fits c.args.cut (cut (goal.at.overflow_cast-cut c).In-Accepted-second).counted (omega (arith, (years (goal.at.overflow_cast-cut c).In-Accepted-second).most, (cut (goal.at.overflow_cast-cut c).In-Accepted-second).most)))
+overflow_cast-cut c =
+    let here = goal.at.overflow_cast-cut c in
+    simp (to_z-of_z c.ranges.cut) (count_fits c.args.cut (cut here.In-Accepted-second).counted (omega (arith, (years here.In-Accepted-second).most, (cut here.In-Accepted-second).most)))
 
 pub question_3-requires : goal.question_3-requires
 question_3-requires c =
-    simp (to_z-of_z c.ranges.years, to_z-of_z c.ranges.cut) (omega (arith, (years (goal.at.question_3-requires c).In-Accepted-second).fewest), (years (goal.at.question_3-requires c).In-Accepted-second).most, (cut (goal.at.question_3-requires c).In-Accepted-second).least)
+    let here = goal.at.question_3-requires c in
+    simp (to_z-of_z c.ranges.years, to_z-of_z c.ranges.cut) (omega (arith, (years here.In-Accepted-second).fewest), (years here.In-Accepted-second).most, (cut here.In-Accepted-second).least)
 
 pub returns : goal.returns
-returns c = let third = simp (to_z-of_z c.ranges.years, to_z-of_z c.ranges.cut) at c.question_3.ensures in
-    went_on (passed_one (goal.at.returns c).In-Accepted) (went_on (passed_two (goal.at.returns c).In-Accepted-second) third)
+returns c =
+    let here = goal.at.returns c in
+    let third = simp (to_z-of_z c.ranges.years, to_z-of_z c.ranges.cut) at c.question_3.ensures in
+    went_on (passed_one here.In-Accepted) (went_on (passed_two here.In-Accepted-second) third)

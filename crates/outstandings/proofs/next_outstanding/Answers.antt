@@ -18,8 +18,10 @@ overflow_sub-result c = simp (to_z-of_z c.ranges.outstanding, to_z-of_z c.ranges
 
 pub overflow_add-result : goal.overflow_add-result
 overflow_add-result c =
-    simp (to_z-of_z c.ranges.outstanding, to_z-of_z c.ranges.payment, to_z-of_z c.ranges.adjustment, to_z-of_z (without_payment (goal.at.overflow_add-result c).Start)) (moved (goal.at.overflow_add-result c).Start)
+    let here = goal.at.overflow_add-result c in
+    simp (to_z-of_z c.ranges.outstanding, to_z-of_z c.ranges.payment, to_z-of_z c.ranges.adjustment, to_z-of_z (without_payment here.Start)) (moved here.Start)
 
 pub returns : goal.returns
 returns c =
-    simp (to_z-of_z c.ranges.outstanding, to_z-of_z c.ranges.payment, to_z-of_z c.ranges.adjustment, to_z-of_z (without_payment (goal.at.returns c).Start), to_z-of_z (moved (goal.at.returns c).Start))
+    let here = goal.at.returns c in
+    simp (to_z-of_z c.ranges.outstanding, to_z-of_z c.ranges.payment, to_z-of_z c.ranges.adjustment, to_z-of_z (without_payment here.Start), to_z-of_z (moved here.Start))

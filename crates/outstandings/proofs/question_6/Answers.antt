@@ -34,12 +34,9 @@ row : (c : After-outstandings_in_row-verdict) → let a = c.args in
 row c =
     let a = c.args in
     let w = c.loop-r.invariant in
-    (simp (
-      (let opened' : to_z w64 (of_z w64 c.opening_of-opening.result) ≡ entry
-          c.args.openings.now (suc c.loop-r.r) = held c.opening_of-opening.result c.opening_of-opening.type_inv ∙ c.opening_of-opening.ensures in opened'),
-      part_is_row w a.payments.now,
-      part_is_row w a.adjustments.now,
-    ) at c.outstandings_in_row-verdict.ensures)
+    let opening : to_z w64 (of_z w64 c.opening_of-opening.result) ≡ entry a.openings.now (suc c.loop-r.r) =
+    held c.opening_of-opening.result c.opening_of-opening.type_inv ∙ c.opening_of-opening.ensures in
+    (simp (opening, part_is_row w a.payments.now, part_is_row w a.adjustments.now) at c.outstandings_in_row-verdict.ensures)
     ∙ sym (outstandings_of_row a.n a.cut a.payments.now a.adjustments.now a.openings.now c.loop-r.r)
 
 pub overflow_add-end : goal.overflow_add-end

@@ -26,21 +26,26 @@ pub overflow_cast-exposure : goal.overflow_cast-exposure
 overflow_cast-exposure c = simp (to_z-of_z (exposure_fits (goal.at.overflow_cast-exposure c).Start)) (exposure_unsigned c.requires.D_positive c.requires.D_most)
 
 pub reciprocal_of-reciprocal-requires : goal.reciprocal_of-reciprocal-requires
-reciprocal_of-reciprocal-requires c = simp (to_z-of_z (exposure_fits (goal.at.reciprocal_of-reciprocal-requires c).Start)) (divisor (goal.at.reciprocal_of-reciprocal-requires c).Start)
+reciprocal_of-reciprocal-requires c =
+    let here = goal.at.reciprocal_of-reciprocal-requires c in
+    simp (to_z-of_z (exposure_fits here.Start)) (divisor here.Start)
 
 pub ratio_of-requires : goal.ratio_of-requires
 ratio_of-requires c =
-    simp (to_z-of_z (exposure_fits (goal.at.ratio_of-requires c).Start), to_z-of_z (payments_fits (goal.at.ratio_of-requires c).Start))
-    (record { exposed = divisor (goal.at.ratio_of-requires c).Start; reciprocal_is = simp (to_z-of_z (exposure_fits (goal.at.ratio_of-requires c).Start)) at c.reciprocal_of-reciprocal.ensures }, c.requires.P_size)
+    let here = goal.at.ratio_of-requires c in
+    simp (to_z-of_z (exposure_fits here.Start), to_z-of_z (payments_fits here.Start))
+    (record { exposed = divisor here.Start; reciprocal_is = simp (to_z-of_z (exposure_fits here.Start)) at c.reciprocal_of-reciprocal.ensures }, c.requires.P_size)
 
 pub ratio_of-requires-2 : goal.ratio_of-requires-2
 ratio_of-requires-2 c =
-    simp (to_z-of_z (exposure_fits (goal.at.ratio_of-requires-2 c).Start), to_z-of_z (adjustments_fits (goal.at.ratio_of-requires-2 c).Start))
-    (record { exposed = divisor (goal.at.ratio_of-requires-2 c).Start; reciprocal_is = simp (to_z-of_z (exposure_fits (goal.at.ratio_of-requires-2 c).Start)) at c.reciprocal_of-reciprocal.ensures }, c.requires.Q_size)
+    let here = goal.at.ratio_of-requires-2 c in
+    simp (to_z-of_z (exposure_fits here.Start), to_z-of_z (adjustments_fits here.Start))
+    (record { exposed = divisor here.Start; reciprocal_is = simp (to_z-of_z (exposure_fits here.Start)) at c.reciprocal_of-reciprocal.ensures }, c.requires.Q_size)
 
 pub returns : goal.returns
 returns c =
-    let p = simp (to_z-of_z (exposure_fits (goal.at.returns c).Start), to_z-of_z (payments_fits (goal.at.returns c).Start)) at c.ratio_of.ensures in
-    let q = simp (to_z-of_z (exposure_fits (goal.at.returns c).Start), to_z-of_z (adjustments_fits (goal.at.returns c).Start)) at c.ratio_of-2.ensures in
-    simp (to_z-of_z (exposure_fits (goal.at.returns c).Start))
+    let here = goal.at.returns c in
+    let p = simp (to_z-of_z (exposure_fits here.Start), to_z-of_z (payments_fits here.Start)) at c.ratio_of.ensures in
+    let q = simp (to_z-of_z (exposure_fits here.Start), to_z-of_z (adjustments_fits here.Start)) at c.ratio_of-2.ensures in
+    simp (to_z-of_z (exposure_fits here.Start))
     (record { payments = p.0; adjustments = q.0 }, sums_of_prepared c.requires c.ratio_of.result c.ratio_of-2.result p.1 q.1)

@@ -21,7 +21,11 @@ pub overflow_cast-result : goal.overflow_cast-result
 overflow_cast-result c = record { sfits = raised_small (goal.at.overflow_cast-result c).Start }
 
 pub overflow_sub-result : goal.overflow_sub-result
-overflow_sub-result c = rw (to_z_pos w64 (raised_small (goal.at.overflow_sub-result c).Start)) (lowered_fits (goal.at.overflow_sub-result c).Start)
+overflow_sub-result c =
+    let here = goal.at.overflow_sub-result c in
+    rw (to_z_pos w64 (raised_small here.Start)) (lowered_fits here.Start)
 
 pub returns : goal.returns
-returns c = rw (to_z_pos w64 (raised_small (goal.at.returns c).Start)) (rw (to_z-of_z (lowered_fits (goal.at.returns c).Start)))
+returns c =
+    let here = goal.at.returns c in
+    rw (to_z_pos w64 (raised_small here.Start)) (rw (to_z-of_z (lowered_fits here.Start)))

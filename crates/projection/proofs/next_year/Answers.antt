@@ -31,8 +31,9 @@ adjusted c = c.rounded_share-adjusted.ensures
 
 pub returns-in_default-adjusted : goal.returns-in_default-adjusted
 returns-in_default-adjusted c =
-    adjustment_too_large c.requires.1 (payment_rounded (goal.at.returns-in_default-adjusted c).In-Rounded)
-    (sym c.in_default-adjusted.is ∙ adjusted (goal.at.returns-in_default-adjusted c).After-rounded_share-adjusted)
+    let here = goal.at.returns-in_default-adjusted c in
+    adjustment_too_large c.requires.1 (payment_rounded here.In-Rounded)
+    (sym c.in_default-adjusted.is ∙ adjusted here.After-rounded_share-adjusted)
 
 -- ---- The outstanding
 

@@ -23,12 +23,15 @@ pub first_outstandings-outstandings-requires : goal.first_outstandings-outstandi
 first_outstandings-outstandings-requires c = first_year _ (observed (goal.at.first_outstandings-outstandings-requires c).Start)
 
 pub loop-k-init : goal.loop-k-init
-loop-k-init c = λ cut. no_year_made (triangle (goal.at.loop-k-init c).Start cut) _ (omega (arith, (observed (goal.at.loop-k-init c).Start).years.fewest)) c.first_outstandings-outstandings.ensures
+loop-k-init c =
+    let here = goal.at.loop-k-init c in
+    λ cut. no_year_made (triangle here.Start cut) _ (omega (arith, (observed here.Start).years.fewest)) c.first_outstandings-outstandings.ensures
 
 pub development_year-sums-requires : goal.development_year-sums-requires
 development_year-sums-requires c =
+    let here = goal.at.development_year-sums-requires c in
     let y = c.loop-k.invariant c.requires.cut in
-    year_input (triangle (goal.at.development_year-sums-requires c).Start c.requires.cut) (observed (goal.at.development_year-sums-requires c).Start) _ _ y.first (omega arith) y.outstandings_long y.at_hand
+    year_input (triangle here.Start c.requires.cut) (observed here.Start) _ _ y.first (omega arith) y.outstandings_long y.at_hand
 
 pub overflow_sub-ratios : goal.overflow_sub-ratios
 overflow_sub-ratios c = (c.loop-k.invariant 0).first
@@ -40,9 +43,11 @@ pub bounds-ratios-k : goal.bounds-ratios-k
 bounds-ratios-k c = let m = (observed (goal.at.bounds-ratios-k c).Start).years.most in let f = (c.loop-k.invariant 0).first in omega arith
 
 pub loop-k-preserved : goal.loop-k-preserved
-loop-k-preserved c = λ cut.
-    one_more_year (triangle (goal.at.loop-k-preserved c).Start cut) _ _ _ (c.loop-k.invariant cut) _ _
-    (omega arith) (observed (goal.at.loop-k-preserved c).Start).years.most
+loop-k-preserved c =
+    let here = goal.at.loop-k-preserved c in
+    λ cut.
+    one_more_year (triangle here.Start cut) _ _ _ (c.loop-k.invariant cut) _ _
+    (omega arith) (observed here.Start).years.most
     c.development_year-sums.ensures.result_value c.development_year-sums.ensures.moved_on
 
 pub returns : goal.returns

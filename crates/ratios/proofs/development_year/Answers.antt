@@ -9,7 +9,7 @@ use Rattle.integers.proofs.MachineArithmetic.{Held, held}
 use Rattle.method.specs.Triangle.{amounts_length}
 use Rattle.ratios.proofs.DevelopmentYear.{before_first_row, weight_inside, amount_inside, addable, movable, next_row, all_rows}
 use Rattle.ratios.proofs.development_year.Goals as goal
-use Rattle.ratios.proofs.development_year.Goals.{After-added-arg-1, In-loop-r}
+use Rattle.ratios.proofs.development_year.Goals.{In-loop-r}
 
 -- the accident year at hand is one of those that are summed
 more : (c : In-loop-r) → c.loop-r.r + c.args.k < c.args.n
@@ -21,18 +21,6 @@ weights_inside c = weight_inside _ _ _ _ _ _ c.requires _ _ _ _ _ c.loop-r.invar
 
 amounts_inside : (c : In-loop-r) → c.loop-r.amount_at < amounts_length c.args.n
 amounts_inside c = amount_inside _ _ _ _ _ _ c.requires _ _ _ _ _ c.loop-r.invariant (more c)
-
-weight_read : (c : After-added-arg-1) → Held (get_or c.args.weights.now c.loop-r.weight_at (pos 0))
-weight_read c = held _ c.added-arg-1.given
-
-payment_read : (c : After-added-arg-1) → Held (get_or c.args.payments.now c.loop-r.amount_at (pos 0))
-payment_read c = held _ c.payment-1.given
-
-adjustment_read : (c : After-added-arg-1) → Held (get_or c.args.adjustments.now c.loop-r.amount_at (pos 0))
-adjustment_read c = held _ c.adjustment-1.given
-
-outstanding_read : (c : After-added-arg-1) → Held (get_or c.loop-r.outstandings c.loop-r.r (pos 0))
-outstanding_read c = held _ c.outstanding-1.given
 
 pub loop-r-init : goal.loop-r-init
 loop-r-init c = before_first_row _ _ _ _ _ _ c.requires
@@ -57,12 +45,19 @@ bounds-weights-weight_at c = weights_inside (goal.at.bounds-weights-weight_at c)
 
 pub added-sums-requires : goal.added-sums-requires
 added-sums-requires c =
-    simp (weight_read (goal.at.added-sums-requires c).After-added-arg-1, payment_read (goal.at.added-sums-requires c).After-added-arg-1, adjustment_read (goal.at.added-sums-requires c).After-added-arg-1, outstanding_read (goal.at.added-sums-requires c).After-added-arg-1)
+    let weight : Held (get_or c.args.weights.now c.loop-r.weight_at (pos 0)) = search rules in
+    let payment : Held (get_or c.args.payments.now c.loop-r.amount_at (pos 0)) = search rules in
+    let adjustment : Held (get_or c.args.adjustments.now c.loop-r.amount_at (pos 0)) = search rules in
+    let outstanding : Held (get_or c.loop-r.outstandings c.loop-r.r (pos 0)) = search rules in
+    simp (weight, payment, adjustment, outstanding)
     (addable _ _ _ _ _ _ c.requires _ _ _ _ _ c.loop-r.invariant (more (goal.at.added-sums-requires c).In-loop-r))
 
 pub next_outstanding-next-requires : goal.next_outstanding-next-requires
 next_outstanding-next-requires c =
-    simp (payment_read (goal.at.next_outstanding-next-requires c).After-added-arg-1, adjustment_read (goal.at.next_outstanding-next-requires c).After-added-arg-1, outstanding_read (goal.at.next_outstanding-next-requires c).After-added-arg-1)
+    let payment : Held (get_or c.args.payments.now c.loop-r.amount_at (pos 0)) = search rules in
+    let adjustment : Held (get_or c.args.adjustments.now c.loop-r.amount_at (pos 0)) = search rules in
+    let outstanding : Held (get_or c.loop-r.outstandings c.loop-r.r (pos 0)) = search rules in
+    simp (payment, adjustment, outstanding)
     (movable _ _ _ _ _ _ c.requires _ _ _ _ _ c.loop-r.invariant (more (goal.at.next_outstanding-next-requires c).In-loop-r))
 
 pub overflow_sub-weight_at-in-loop-r : goal.overflow_sub-weight_at-in-loop-r
@@ -85,10 +80,14 @@ overflow_add-amount_at c =
 
 pub loop-r-preserved : goal.loop-r-preserved
 loop-r-preserved c =
+    let weight : Held (get_or c.args.weights.now c.loop-r.weight_at (pos 0)) = search rules in
+    let payment : Held (get_or c.args.payments.now c.loop-r.amount_at (pos 0)) = search rules in
+    let adjustment : Held (get_or c.args.adjustments.now c.loop-r.amount_at (pos 0)) = search rules in
+    let outstanding : Held (get_or c.loop-r.outstandings c.loop-r.r (pos 0)) = search rules in
     next_row _ _ _ _ _ _ c.requires _ _ _ _ _ c.loop-r.invariant (more (goal.at.loop-r-preserved c).In-loop-r) _ _
-    (simp (weight_read (goal.at.loop-r-preserved c).After-added-arg-1, payment_read (goal.at.loop-r-preserved c).After-added-arg-1, adjustment_read (goal.at.loop-r-preserved c).After-added-arg-1, outstanding_read (goal.at.loop-r-preserved c).After-added-arg-1) at c.added-sums.ensures)
+    (simp (weight, payment, adjustment, outstanding) at c.added-sums.ensures)
     (held c.next_outstanding-next.result c.next_outstanding-next.type_inv
-    ∙ (simp (payment_read (goal.at.loop-r-preserved c).After-added-arg-1, adjustment_read (goal.at.loop-r-preserved c).After-added-arg-1, outstanding_read (goal.at.loop-r-preserved c).After-added-arg-1) at c.next_outstanding-next.ensures))
+    ∙ (simp (payment, adjustment, outstanding) at c.next_outstanding-next.ensures))
 
 pub returns : goal.returns
 returns c =

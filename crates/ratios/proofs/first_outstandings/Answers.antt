@@ -11,21 +11,15 @@ use Rattle.integers.proofs.MachineArithmetic.{Held, held}
 use Rattle.method.specs.Triangle.{amounts_length, entry}
 use Rattle.ratios.proofs.FirstYear.{none_placed, first_inside, movable, one_more_placed, all_placed}
 use Rattle.ratios.proofs.first_outstandings.Goals as goal
-use Rattle.ratios.proofs.first_outstandings.Goals.{After-next_outstanding-arg-in-loop-r-1, In-loop-r}
+use Rattle.ratios.proofs.first_outstandings.Goals.{After-opening_of-opening, In-loop-r}
 
 -- the first cell of the row at hand is inside both lists
 inside : (c : In-loop-r) → c.loop-r.start < amounts_length c.args.n
 inside c = first_inside _ _ _ _ c.requires _ _ _ c.loop-r.invariant (omega arith)
 
-opened : (c : After-next_outstanding-arg-in-loop-r-1)
+opened : (c : After-opening_of-opening)
     → to_z w64 (of_z w64 c.opening_of-opening.result) ≡ entry c.args.openings.now (suc c.loop-r.r)
 opened c = held c.opening_of-opening.result c.opening_of-opening.type_inv ∙ c.opening_of-opening.ensures
-
-payment_read : (c : After-next_outstanding-arg-in-loop-r-1) → Held (get_or c.args.payments.now c.loop-r.start (pos 0))
-payment_read c = held _ c.next_outstanding-arg-1.given
-
-adjustment_read : (c : After-next_outstanding-arg-in-loop-r-1) → Held (get_or c.args.adjustments.now c.loop-r.start (pos 0))
-adjustment_read c = held _ c.next_outstanding-arg-in-loop-r-1.given
 
 pub loop-r-init : goal.loop-r-init
 loop-r-init c = none_placed _ _ _ _ c.requires
@@ -44,16 +38,21 @@ offset_bounds-adjustments-start c = let l = inside (goal.at.offset_bounds-adjust
 
 pub next_outstanding-outstanding-requires : goal.next_outstanding-outstanding-requires
 next_outstanding-outstanding-requires c =
-    simp (opened (goal.at.next_outstanding-outstanding-requires c).After-next_outstanding-arg-in-loop-r-1, payment_read (goal.at.next_outstanding-outstanding-requires c).After-next_outstanding-arg-in-loop-r-1, adjustment_read (goal.at.next_outstanding-outstanding-requires c).After-next_outstanding-arg-in-loop-r-1) (movable _ _ _ _ c.requires _ _ _ c.loop-r.invariant (omega arith))
+    let payment : Held (get_or c.args.payments.now c.loop-r.start (pos 0)) = search rules in
+    let adjustment : Held (get_or c.args.adjustments.now c.loop-r.start (pos 0)) = search rules in
+    simp (opened (goal.at.next_outstanding-outstanding-requires c).After-opening_of-opening, payment, adjustment)
+    (movable _ _ _ _ c.requires _ _ _ c.loop-r.invariant (omega arith))
 
 pub overflow_add-start : goal.overflow_add-start
 overflow_add-start c = let l = inside (goal.at.overflow_add-start c).In-loop-r in let m = c.requires.payments_length in search rules
 
 pub loop-r-preserved : goal.loop-r-preserved
 loop-r-preserved c =
+    let payment : Held (get_or c.args.payments.now c.loop-r.start (pos 0)) = search rules in
+    let adjustment : Held (get_or c.args.adjustments.now c.loop-r.start (pos 0)) = search rules in
     one_more_placed _ _ _ _ c.requires _ _ _ c.loop-r.invariant (omega arith) _
     (held c.next_outstanding-outstanding.result c.next_outstanding-outstanding.type_inv
-    ∙ (simp (opened (goal.at.loop-r-preserved c).After-next_outstanding-arg-in-loop-r-1, payment_read (goal.at.loop-r-preserved c).After-next_outstanding-arg-in-loop-r-1, adjustment_read (goal.at.loop-r-preserved c).After-next_outstanding-arg-in-loop-r-1) at c.next_outstanding-outstanding.ensures))
+    ∙ (simp (opened (goal.at.loop-r-preserved c).After-opening_of-opening, payment, adjustment) at c.next_outstanding-outstanding.ensures))
 
 pub returns : goal.returns
 returns c = all_placed _ _ _ _ c.requires _ _ _ c.loop-r.invariant (omega arith)

@@ -34,8 +34,9 @@ year_at-requires c =
 
 pub next_year-requires : goal.next_year-requires
 next_year-requires c =
+    let here = goal.at.next_year-requires c in
     let p = c.requires in
-    (rw (year_read (goal.at.next_year-requires c).After-year_at) p.ready, rw (sums_read (goal.at.next_year-requires c).After-year_at) p.input)
+    (rw (year_read here.After-year_at) p.ready, rw (sums_read here.After-year_at) p.input)
 
 pub returns : goal.returns
 returns c =

@@ -37,12 +37,16 @@ returns-in_default c =
     }
 
 pub overflow_cast-years : goal.overflow_cast-years
-overflow_cast-years c = simp (to_z-of_z c.ranges.years)
-    (count_fits c.args.years (rows (goal.at.overflow_cast-years c).In-Accepted).years_right.counted (rows (goal.at.overflow_cast-years c).In-Accepted).years_right.most)
+overflow_cast-years c =
+    let here = goal.at.overflow_cast-years c in
+    simp (to_z-of_z c.ranges.years)
+    (count_fits c.args.years (rows here.In-Accepted).years_right.counted (rows here.In-Accepted).years_right.most)
 
 pub overflow_cast-accident_year : goal.overflow_cast-accident_year
-overflow_cast-accident_year c = simp (to_z-of_z c.ranges.accident_year)
-    (count_fits c.args.accident_year (rows (goal.at.overflow_cast-accident_year c).In-Accepted).counted (omega (arith, (rows (goal.at.overflow_cast-accident_year c).In-Accepted).last, (rows (goal.at.overflow_cast-accident_year c).In-Accepted).years_right.most)))
+overflow_cast-accident_year c =
+    let here = goal.at.overflow_cast-accident_year c in
+    simp (to_z-of_z c.ranges.accident_year)
+    (count_fits c.args.accident_year (rows here.In-Accepted).counted (omega (arith, (rows here.In-Accepted).last, (rows here.In-Accepted).years_right.most)))
 
 pub row_of-requires : goal.row_of-requires
 row_of-requires c =
@@ -51,10 +55,11 @@ row_of-requires c =
 
 pub returns : goal.returns
 returns c =
+    let here = goal.at.returns c in
     let list = c.named_list-list.ensures in
     record {
       holds = (simp (to_z-of_z c.ranges.years, to_z-of_z c.ranges.accident_year, list, named_holds) at c.row_of.ensures.result_value)
-          ∙ accepted_row c.args.years _ _ c.args.accident_year (amounts_of c.args.named) (passed (goal.at.returns c).In-Accepted);
-      empty_where_refused = λ no. absurd (no (passed (goal.at.returns c).In-Accepted));
+          ∙ accepted_row c.args.years _ _ c.args.accident_year (amounts_of c.args.named) (passed here.In-Accepted);
+      empty_where_refused = λ no. absurd (no (passed here.In-Accepted));
       own_part = λ yes. simp (to_z-of_z c.ranges.years, to_z-of_z c.ranges.accident_year, list) at c.row_of.ensures.own_part;
     }

@@ -46,12 +46,15 @@ with_demand_1 s e = demand_1_of_row_verdict _ _ _ _ e
 pub returns-in_default : goal.returns-in_default
 unfolding row_verdict
 returns-in_default c =
-    let whole = stopped _ (one (goal.at.returns-in_default c).After-question_1-first) (ap verdict_of c.in_default.is) in
-    record { whole = whole; demand_1 = with_demand_1 (goal.at.returns-in_default c).Start whole }
+    let here = goal.at.returns-in_default c in
+    let whole = stopped _ (one here.After-question_1-first) (ap verdict_of c.in_default.is) in
+    record { whole = whole; demand_1 = with_demand_1 here.Start whole }
 
 pub overflow_cast-years : goal.overflow_cast-years
-overflow_cast-years c = simp (to_z-of_z c.ranges.years)
-    (count_fits c.args.years (years (goal.at.overflow_cast-years c).In-Accepted).counted (years (goal.at.overflow_cast-years c).In-Accepted).most)
+overflow_cast-years c =
+    let here = goal.at.overflow_cast-years c in
+    simp (to_z-of_z c.ranges.years)
+    (count_fits c.args.years (years here.In-Accepted).counted (years here.In-Accepted).most)
 
 pub both_lengths_right-requires : goal.both_lengths_right-requires
 both_lengths_right-requires c = simp (to_z-of_z c.ranges.years) (years (goal.at.both_lengths_right-requires c).In-Accepted).most
@@ -59,11 +62,13 @@ both_lengths_right-requires c = simp (to_z-of_z c.ranges.years) (years (goal.at.
 pub returns-in_default-third : goal.returns-in_default-third
 unfolding row_verdict
 returns-in_default-third c =
-    let whole = went_on (passed_one (goal.at.returns-in_default-third c).In-Accepted) (stopped _ (three (goal.at.returns-in_default-third c).After-asked-third) (ap verdict_of c.in_default-third.is)) in
-    record { whole = whole; demand_1 = with_demand_1 (goal.at.returns-in_default-third c).Start whole }
+    let here = goal.at.returns-in_default-third c in
+    let whole = went_on (passed_one here.In-Accepted) (stopped _ (three here.After-asked-third) (ap verdict_of c.in_default-third.is)) in
+    record { whole = whole; demand_1 = with_demand_1 here.Start whole }
 
 pub returns : goal.returns
 unfolding row_verdict
 returns c =
-    let whole = went_on (passed_one (goal.at.returns c).In-Accepted) (went_on (passed_three (goal.at.returns c).In-Accepted-third) (ten (goal.at.returns c).After-asked)) in
-    record { whole = whole; demand_1 = with_demand_1 (goal.at.returns c).Start whole }
+    let here = goal.at.returns c in
+    let whole = went_on (passed_one here.In-Accepted) (went_on (passed_three here.In-Accepted-third) (ten here.After-asked)) in
+    record { whole = whole; demand_1 = with_demand_1 here.Start whole }

@@ -19,14 +19,16 @@ overflow_add-years c = simp (to_z-of_z c.ranges.years) (years_fit (years_right (
 
 pub overflow_sub-years : goal.overflow_sub-years
 overflow_sub-years c =
-    let y = years_right (goal.at.overflow_sub-years c).Start in
+    let here = goal.at.overflow_sub-years c in
+    let y = years_right here.Start in
     simp (to_z-of_z c.ranges.years, to_z-of_z c.ranges.accident_year, to_z-of_z (years_fit y))
-    (first_unseen_fits y c.args.accident_year (tested (goal.at.overflow_sub-years c).After-from_to ∙ c.if-from_to.true))
+    (first_unseen_fits y c.args.accident_year (tested here.After-from_to ∙ c.if-from_to.true))
 
 pub returns-then-from_to : goal.returns-then-from_to
 returns-then-from_to c =
-    let y = years_right (goal.at.returns-then-from_to c).Start in
-    let e = tested (goal.at.returns-then-from_to c).After-from_to ∙ c.if-from_to.true in
+    let here = goal.at.returns-then-from_to c in
+    let y = years_right here.Start in
+    let e = tested here.After-from_to ∙ c.if-from_to.true in
     (simp (
       to_z-of_z c.ranges.years,
       to_z-of_z c.ranges.accident_year,

@@ -106,21 +106,24 @@ cell_right c = cell_year (triangle_asked (asked_9 c.before)) _ _ (projectable_as
 pub returns-in_default : goal.returns-in_default
 unfolding cell_verdict questions
 returns-in_default c =
-    let t = triangle (goal.at.returns-in_default c).Start in
+    let here = goal.at.returns-in_default c in
+    let t = triangle here.Start in
     let d = ap verdict_of c.in_default.is in
     let whole = c.refused.ensures ∙ refused_whole t c.args.accident_year c.args.development_year
-    (stopped _ (stopped _ (reading (goal.at.returns-in_default c).After-read-reading).verdict_is d) d) d in
+    (stopped _ (stopped _ (reading here.After-read-reading).verdict_is d) d) d in
     let w = with_demands t _ _ whole in
     record { whole = w.0; demand_1 = w.1.0; of_future = w.1.1 }
 
 pub overflow_cast-n : goal.overflow_cast-n
 overflow_cast-n c =
-    let o = observed (reading (goal.at.overflow_cast-n c).After-read-reading) (readable (goal.at.overflow_cast-n c).In-Accepted) in
+    let here = goal.at.overflow_cast-n c in
+    let o = observed (reading here.After-read-reading) (readable here.In-Accepted) in
     simp (to_z-of_z c.ranges.years) (count_fits c.args.years o.years.counted o.years.most)
 
 pub prepare_years-requires : goal.prepare_years-requires
 prepare_years-requires c =
-    simp (to_z-of_z c.ranges.years) (can_be_prepared (reading (goal.at.prepare_years-requires c).After-read-reading) (readable (goal.at.prepare_years-requires c).In-Accepted), refl)
+    let here = goal.at.prepare_years-requires c in
+    simp (to_z-of_z c.ranges.years) (can_be_prepared (reading here.After-read-reading) (readable here.In-Accepted), refl)
 
 pub question_9-projected-requires : goal.question_9-projected-requires
 question_9-projected-requires c =

@@ -1,13 +1,12 @@
 -- The three reserves, one after another.
-use Rattle.integers.proofs.MachineArithmetic.{held}
+use borrow.Author.Rules.{rules}
+use Rattle.integers.proofs.MachineArithmetic.{Held}
 use Rattle.calls.proofs.all_rows.write_reserves.Goals as goal
 
 pub returns : goal.returns
 returns c =
-    let told = c.struct_told-3-1.given in
     let x = c.args.row in
-    simp (
-      held x.paid.0 told.1.0.1.1.0.1,
-      held x.incurred.0 told.1.1.0.1.1.0.1,
-      held x.closing.0 told.1.1.1.0.1.1.0.1,
-    ) at c.write_three.ensures
+    let paid : Held x.paid.0 = search rules in
+    let incurred : Held x.incurred.0 = search rules in
+    let closing : Held x.closing.0 = search rules in
+    simp (paid, incurred, closing) at c.write_three.ensures

@@ -36,21 +36,25 @@ returns-in_default c = refused_before (reading (goal.at.returns-in_default c).Af
 
 pub overflow_cast-n : goal.overflow_cast-n
 overflow_cast-n c =
-    let o = observed (reading (goal.at.overflow_cast-n c).After-read-reading) (yes_said (goal.at.overflow_cast-n c).In-Accepted) in
+    let here = goal.at.overflow_cast-n c in
+    let o = observed (reading here.After-read-reading) (yes_said here.In-Accepted) in
     simp (to_z-of_z c.ranges.years) (count_fits c.args.years o.years.counted o.years.most)
 
 pub prepare_years-requires : goal.prepare_years-requires
 prepare_years-requires c =
-    simp (to_z-of_z c.ranges.years) (can_be_prepared (reading (goal.at.prepare_years-requires c).After-read-reading) (yes_said (goal.at.prepare_years-requires c).In-Accepted), refl)
+    let here = goal.at.prepare_years-requires c in
+    simp (to_z-of_z c.ranges.years) (can_be_prepared (reading here.After-read-reading) (yes_said here.In-Accepted), refl)
 
 pub project-requires : goal.project-requires
 project-requires c =
-    let e = reading (goal.at.project-requires c).After-read-reading in
-    let a = yes_said (goal.at.project-requires c).In-Accepted in
+    let here = goal.at.project-requires c in
+    let e = reading here.After-read-reading in
+    let a = yes_said here.In-Accepted in
     simp (to_z-of_z c.ranges.years)
-    (record { projectable = can_be_projected e a (prepared (goal.at.project-requires c).After-prepare_years); future_len = lists_whole e a })
+    (record { projectable = can_be_projected e a (prepared here.After-prepare_years); future_len = lists_whole e a })
 
 pub returns : goal.returns
 returns c =
+    let here = goal.at.returns c in
     let rows = simp (to_z-of_z c.ranges.years) at c.project.ensures in
-    projected (reading (goal.at.returns c).After-read-reading) (yes_said (goal.at.returns c).In-Accepted) (prepared (goal.at.returns c).After-prepare_years) rows
+    projected (reading here.After-read-reading) (yes_said here.In-Accepted) (prepared here.After-prepare_years) rows

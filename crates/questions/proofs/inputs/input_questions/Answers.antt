@@ -46,33 +46,44 @@ five_to_seven c = simp (to_z-of_z c.ranges.years, to_z-of_z c.ranges.cut) at c.q
 
 pub returns-in_default : goal.returns-in_default
 returns-in_default c =
-    stopped _ (three (goal.at.returns-in_default c).After-questions_1_to_3-measured) (ap verdict_of c.in_default.is)
-    ∙ input_questions_is (triangle (goal.at.returns-in_default c).Start) c.args.answers
+    let here = goal.at.returns-in_default c in
+    stopped _ (three here.After-questions_1_to_3-measured) (ap verdict_of c.in_default.is)
+    ∙ input_questions_is (triangle here.Start) c.args.answers
 
 pub overflow_cast-n : goal.overflow_cast-n
 overflow_cast-n c = let y = years_right _ _ _ (passed_three (goal.at.overflow_cast-n c).In-Accepted) in
     simp (to_z-of_z c.ranges.years) (count_fits c.args.years y.counted y.most)
 
 pub overflow_cast-y : goal.overflow_cast-y
-overflow_cast-y c = let y = cut_right _ _ _ (passed_three (goal.at.overflow_cast-y c).In-Accepted) in
-    simp (to_z-of_z c.ranges.cut) (count_fits c.args.cut y.counted (omega (arith, (years_right _ _ _ (passed_three (goal.at.overflow_cast-y c).In-Accepted)).most, y.most)))
+overflow_cast-y c =
+    let here = goal.at.overflow_cast-y c in
+    let y = cut_right _ _ _ (passed_three here.In-Accepted) in
+    simp (to_z-of_z c.ranges.cut) (count_fits c.args.cut y.counted (omega (arith, (years_right _ _ _ (passed_three here.In-Accepted)).most, y.most)))
 
 pub question_4-fourth-requires : goal.question_4-fourth-requires
-question_4-fourth-requires c = let y = years_right _ _ _ (passed_three (goal.at.question_4-fourth-requires c).In-Accepted) in
-    simp (to_z-of_z c.ranges.years) (omega (arith, y.fewest), y.most, ((says_input_lengths (triangle (goal.at.question_4-fourth-requires c).Start)).sound (measured (goal.at.question_4-fourth-requires c).In-Accepted)).weights)
+question_4-fourth-requires c =
+    let here = goal.at.question_4-fourth-requires c in
+    let y = years_right _ _ _ (passed_three here.In-Accepted) in
+    simp (to_z-of_z c.ranges.years) (omega (arith, y.fewest), y.most, ((says_input_lengths (triangle here.Start)).sound (measured here.In-Accepted)).weights)
 
 pub returns-in_default-fourth : goal.returns-in_default-fourth
 unfolding list_questions
-returns-in_default-fourth c = went_on (passed_three (goal.at.returns-in_default-fourth c).In-Accepted) (stopped _ (four (goal.at.returns-in_default-fourth c).After-question_4-fourth) (ap verdict_of c.in_default-fourth.is))
-    ∙ input_questions_is (triangle (goal.at.returns-in_default-fourth c).Start) c.args.answers
+returns-in_default-fourth c =
+    let here = goal.at.returns-in_default-fourth c in
+    went_on (passed_three here.In-Accepted) (stopped _ (four here.After-question_4-fourth) (ap verdict_of c.in_default-fourth.is))
+    ∙ input_questions_is (triangle here.Start) c.args.answers
 
 pub questions_5_to_7-requires : goal.questions_5_to_7-requires
 unfolding input_lengths_right
-questions_5_to_7-requires c = let y = years_right _ _ _ (passed_three (goal.at.questions_5_to_7-requires c).In-Accepted) in
+questions_5_to_7-requires c =
+    let here = goal.at.questions_5_to_7-requires c in
+    let y = years_right _ _ _ (passed_three here.In-Accepted) in
     simp (to_z-of_z c.ranges.years, to_z-of_z c.ranges.cut)
-    (omega (arith, y.fewest), y.most, measured (goal.at.questions_5_to_7-requires c).In-Accepted)
+    (omega (arith, y.fewest), y.most, measured here.In-Accepted)
 
 pub returns : goal.returns
 unfolding list_questions
-returns c = went_on (passed_three (goal.at.returns c).In-Accepted) (went_on (sym (four (goal.at.returns c).After-question_4-fourth) ∙ ap verdict_of c.in-Accepted-fourth.is) (five_to_seven (goal.at.returns c).After-questions_5_to_7))
-    ∙ input_questions_is (triangle (goal.at.returns c).Start) c.args.answers
+returns c =
+    let here = goal.at.returns c in
+    went_on (passed_three here.In-Accepted) (went_on (sym (four here.After-question_4-fourth) ∙ ap verdict_of c.in-Accepted-fourth.is) (five_to_seven here.After-questions_5_to_7))
+    ∙ input_questions_is (triangle here.Start) c.args.answers

@@ -39,14 +39,20 @@ returns-in_default c = stopped _ (c.question_5-fifth.ensures _ _) (ap verdict_of
 
 pub question_6-sixth-requires : goal.question_6-sixth-requires
 unfolding question_5 whole_list
-question_6-sixth-requires c = let m = measured (goal.at.question_6-sixth-requires c).Start in let right = then_accepted _ _ (passed_five (goal.at.question_6-sixth-requires c).In-Accepted) in search rules
+question_6-sixth-requires c =
+    let here = goal.at.question_6-sixth-requires c in
+    let m = measured here.Start in let right = then_accepted _ _ (passed_five here.In-Accepted) in search rules
 
 pub returns-in_default-sixth : goal.returns-in_default-sixth
-returns-in_default-sixth c = went_on (passed_five (goal.at.returns-in_default-sixth c).In-Accepted) (stopped _ (six (goal.at.returns-in_default-sixth c).After-question_6-sixth) (ap verdict_of c.in_default-sixth.is))
+returns-in_default-sixth c =
+    let here = goal.at.returns-in_default-sixth c in
+    went_on (passed_five here.In-Accepted) (stopped _ (six here.After-question_6-sixth) (ap verdict_of c.in_default-sixth.is))
 
 pub first_refusal-requires : goal.first_refusal-requires
 first_refusal-requires c = (search rules, (measured (goal.at.first_refusal-requires c).Start).weights ∙ weights_length_is c.args.n (omega arith))
 
 pub returns : goal.returns
 unfolding question_7 whole_list
-returns c = went_on (passed_five (goal.at.returns c).In-Accepted) (went_on (sym (six (goal.at.returns c).After-question_6-sixth) ∙ ap verdict_of c.in-Accepted-sixth.is) c.first_refusal.ensures)
+returns c =
+    let here = goal.at.returns c in
+    went_on (passed_five here.In-Accepted) (went_on (sym (six here.After-question_6-sixth) ∙ ap verdict_of c.in-Accepted-sixth.is) c.first_refusal.ensures)

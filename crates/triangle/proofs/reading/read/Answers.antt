@@ -54,8 +54,10 @@ returns-in_default c =
     rw c.refused.ensures (refused_reading _ _ _ (stopped _ (inputs (goal.at.returns-in_default c).After-input_questions-inputs) no) no)
 
 pub overflow_cast-n : goal.overflow_cast-n
-overflow_cast-n c = simp (to_z-of_z c.ranges.years) (count_fits c.args.years
-    (read_of (goal.at.overflow_cast-n c).In-Accepted).years.counted (read_of (goal.at.overflow_cast-n c).In-Accepted).years.most)
+overflow_cast-n c =
+    let here = goal.at.overflow_cast-n c in
+    simp (to_z-of_z c.ranges.years) (count_fits c.args.years
+    (read_of here.In-Accepted).years.counted (read_of here.In-Accepted).years.most)
 
 pub development_of-development-requires : goal.development_of-development-requires
 development_of-development-requires c =
@@ -68,12 +70,14 @@ question_8-exposed-requires c = simp (to_z-of_z c.ranges.years) (read_of (goal.a
 pub returns-in_default-exposed : goal.returns-in_default-exposed
 unfolding observed_questions
 returns-in_default-exposed c =
+    let here = goal.at.returns-in_default-exposed c in
     let no = ap verdict_of c.in_default-exposed.is in
-    rw c.refused-in_default-exposed.ensures (refused_reading _ _ _ (went_on (passed (goal.at.returns-in_default-exposed c).In-Accepted) (eight (goal.at.returns-in_default-exposed c).After-question_8-exposed)) no)
+    rw c.refused-in_default-exposed.ensures (refused_reading _ _ _ (went_on (passed here.In-Accepted) (eight here.After-question_8-exposed)) no)
 
 pub returns : goal.returns
 unfolding observed_questions
 returns c =
+    let here = goal.at.returns c in
     let yes = ap verdict_of c.in-Accepted-exposed.is in
-    accepted_reading _ _ _ (went_on (passed (goal.at.returns c).In-Accepted) (eight (goal.at.returns c).After-question_8-exposed)) _ yes
-    (made (goal.at.returns c).After-development_of-development)
+    accepted_reading _ _ _ (went_on (passed here.In-Accepted) (eight here.After-question_8-exposed)) _ yes
+    (made here.After-development_of-development)
