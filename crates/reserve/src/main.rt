@@ -75,12 +75,17 @@ fn print_answer(rt: &impl Print, text: &[u8]) -> io::Result<()> {
     answer::answer(rt, text)
 }
 
-// Says on standard error what failed and the system's reason, without the number that the system gives it.
+// Says on standard error what failed, and why.
 fn fail(rt: &(impl Eprint + AllocGlobal), what: &str, error: io::Error) -> io::Result<()> {
     let told = format!(in rt.alloc(); "{error}")?;
-    let reason = match told.as_str().split_once(" (os error ") {
-        Some((reason, _number)) => reason,
-        None => told.as_str(),
-    };
+    let reason = without_number(told.as_str());
     rt.eprintln(format_args!("{what}: {reason}"))
+}
+
+// An error's text, without the number that the system gives the error.
+fn without_number(told: &str) -> &str {
+    match told.split_once(" (os error ") {
+        Some((reason, _number)) => reason,
+        None => told,
+    }
 }
