@@ -22,7 +22,7 @@ CRATES = REPOSITORY / "crates"
 ERROR = re.compile(r" error(\[[a-z-]+\])?: ")
 FACT = re.compile(r" error: `([^`]+)`")
 OPEN = re.compile(r"it is not proved that .*\(`([^`]+)`\)")
-MODULES = re.compile(r"(?:[A-Za-z_][\w·-]*\.)+(?=[\w«])")
+MODULES = re.compile(r"\b(?:Rattle|Prim|borrow|denote|lib|mathlib|mir|native|types)(?:[.-][\w+-]+)*\.(?=[\w«◌])")
 
 
 def wrong(message, names=()):
