@@ -68,9 +68,9 @@ def changed(crate, file, pairs):
 def refusal(output):
     """Where the first fact stands that does not hold, in short the difference or the numbers that the checker shows, and what else does not hold."""
     lines = output.splitlines()
-    # An error that only waits for another fact comes last, after what is missing where a proof was made by the checker.
+    # An error that only waits for another fact, or is of a name of the code as it was, comes last, after what is missing where a proof was made by the checker.
     errors = [at for at, line in enumerate(lines) if ERROR.search(line)]
-    told = [at for at in errors if not re.search(" not checked: |was not admitted", lines[at])]
+    told = [at for at in errors if not re.search(" not checked: |was not admitted|that can be named from here", lines[at])]
     missing = [at for at, line in enumerate(lines) if line.startswith("note: ") and OPEN.search(line)]
     if not told + missing + errors:
         return output[-800:]
@@ -80,7 +80,7 @@ def refusal(output):
     whole = " ".join(line.strip() for line in lines[start:end + 1]).removeprefix("note: ")
     where, _, error = ERROR.sub(" ", whole, 1).partition(": ")
     # The difference after computing is the shorter one, and the whole types say no more.
-    shown = re.split(r"(?<!:) expected type | It read |(?: `[^`]+`,?)+ do(?:es)? not unfold here", MODULES.sub("", error))[0]
+    shown = re.split(r"(?<!:) expected type | It read |(?: `[^`]+`,?(?: \(of `[^`]+`\))?)+ do(?:es)? not unfold here", MODULES.sub("", error))[0]
     fact, printed, difference = shown.partition(": as printed, ")
     if printed:
         shown = f"{fact}: {difference.split(' computed as far as they go, ')[-1]}"
