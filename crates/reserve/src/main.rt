@@ -12,10 +12,11 @@ mod tables_of_answer;
 
 use printed::line::line_of;
 use printing::print_line;
+use std::env::{Env, FillError};
 use std::fs::File;
 use std::io::Read;
 use std::rt::Files;
-use std::{env, io};
+use std::{io, str};
 
 // The name of a file has at most as many bytes, and one byte more of 0 after them.
 const LONGEST_NAME: usize = 4095;
@@ -23,21 +24,26 @@ const LONGEST_NAME: usize = 4095;
 const LONGEST_TEXT: usize = 65_536;
 
 fn main(rt: HostRuntime) -> io::Result<()> {
-    let mut arguments = match env::args(&rt) {
-        Ok(arguments) => arguments,
-        Err(error) => return fail(&rt, "the name of the file", error),
-    };
-    let _program = arguments.next();
-    let Some(name) = arguments.next() else {
-        return read_from(&rt, rt.reader(), "standard input");
-    };
-    if arguments.next().is_some() {
+    if is_given(&rt, 2) {
         return rt.eprintln("usage: reserve [FILE]");
     }
-    read_named(&rt, name.as_str())
+    let mut name = [0u8; LONGEST_NAME + 1];
+    match rt.arg(1, &mut name) {
+        Ok(length) => read_named(&rt, &name[..length]),
+        Err(FillError::NotPresent) => read_from(&rt, rt.reader(), "standard input"),
+        Err(FillError::TooLong) => rt.eprintln("the name of the file: File name too long"),
+    }
 }
 
-fn read_named(rt: &(impl Files + Print + Eprint + AllocGlobal), name: &str) -> io::Result<()> {
+// Whether there is an argument of this number. Only its length is asked for.
+fn is_given(rt: &impl Env, number: usize) -> bool {
+    !matches!(rt.arg(number, &mut []), Err(FillError::NotPresent))
+}
+
+fn read_named(rt: &(impl Files + Print + Eprint + AllocGlobal), name: &[u8]) -> io::Result<()> {
+    let Ok(name) = str::from_utf8(name) else {
+        return rt.eprintln("the name of the file: invalid data");
+    };
     if name == "-" {
         return rt.eprintln("-: expected the name of a file; without one, standard input is read");
     }

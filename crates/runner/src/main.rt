@@ -21,7 +21,8 @@ const LONGEST_TEXT: u64 = 65_536;
 fn main(rt: HostRuntime) -> io::Result<()> {
     let mut cases = Vec::new(rt.alloc());
     let mut input = rt.reader().take(LONGEST_TEXT);
-    input.read_to_end(&mut cases)?;
+    // A read that fails ends the input.
+    let _ = input.read_to_end(&mut cases);
     work_lines(&rt, cases.as_slice());
     example_1::compare(&rt);
     Ok(())
