@@ -24,6 +24,9 @@ OTHERWISE = {
     "Theorem-3-2-where-exposures-are-positive": "Theorem3_2WhereExposuresArePositive",
 }
 
+# Parts of names of lemmas, where the name of the library that they are about is spelled otherwise today.
+PARTS = [(r"natAbs", "nat_abs"), (r"nat_abs_negℤ", "nat_abs_neg_ℤ"), (r"ltZ_(?=true|false)", "lt_z_")]
+
 
 def files(kind):
     for folder, below, names in os.walk("crates"):
@@ -171,6 +174,8 @@ def main():
             if names.get(name) in words:
                 print(f"already there: {path}: {name} would be {names[name]}")
         new = turned_antt(text, names, imported)
+        for old, today in PARTS:
+            new = re.sub(old, today, new)
         if new != text:
             with open(path, "w", encoding="utf-8") as f:
                 f.write(new)

@@ -4,7 +4,7 @@ use mathlib.Core.Logic.{inl, inr}
 use Prim.Native.Nat.{ℕ, zero, suc, ◌+◌, ◌≤◌}
 use native.Mathlib.Omega.{arith}
 use lib.IntN.{ℤ, ◌+ℤ◌, ◌-ℤ◌, nat_abs}
-use Rattle.integers.proofs.Order.{natAbs_in_range}
+use Rattle.integers.proofs.Order.{nat_abs_in_range}
 use Rattle.method.specs.Limits.{greatest_outstanding}
 use Rattle.method.specs.Triangle.{Triangle, n, S, T, cell}
 use Rattle.method.specs.Outstandings.{R}
@@ -33,6 +33,6 @@ module _ (t : Triangle) where
       adjustment_size = (ok.adjustment (suc r) (suc j) (omega arith) (omega arith) (omega arith)).in_range;
       in_range_or_unmoved =
           inl (subst (λ (x : ℤ). nat_abs x ≤ nat_abs greatest_outstanding) (same_outstanding (suc r) j)
-          (natAbs_in_range (R t (suc r) j) (R_in_range t ok (suc r) j (omega arith) (omega arith))));
+          (nat_abs_in_range (R t (suc r) j) (R_in_range t ok (suc r) j (omega arith) (omega arith))));
     };
   }

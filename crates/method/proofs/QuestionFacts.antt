@@ -10,7 +10,7 @@ use lib.Signed.{lt_z, ◌≤ℤ◌, ◌<ℤ◌}
 use Rattle.integers.specs.Fraction.{size}
 use Rattle.integers.proofs.RingSolver.{con, ◌:+◌, ◌:-◌}
 use Rattle.integers.proofs.LinearFacts.{integers, parts}
-use Rattle.integers.proofs.Order.{natAbs-≤}
+use Rattle.integers.proofs.Order.{nat_abs-≤}
 use Rattle.method.specs.Limits.{fewest_years, most_years, greatest_weight, greatest_amount, greatest_outstanding, greatest_figure}
 use Rattle.method.specs.Triangle.{Triangle, n, Y, S, T, w, amounts_length, weights_length, openings_length, future_length, reserves_length}
 use Rattle.method.specs.Outstandings.{R, sums}
@@ -98,7 +98,7 @@ pub record AmountRight (cut i k : ℕ) (x : ℤ) : Type 0 where
 pub amount_right_true : (cut i k : ℕ) (x : ℤ) → amount_right cut i k x ≡ true → AmountRight cut i k x
 amount_right_true cut i k x e =
     let (within, zero) = (says_amount cut i k x).sound e in
-    record { in_range = (natAbs-≤ x (nat_abs greatest_amount)).1 within; zero_up_to_cut = zero }
+    record { in_range = (nat_abs-≤ x (nat_abs greatest_amount)).1 within; zero_up_to_cut = zero }
 
 -- the figures of a projected year within the limit
 pub record FiguresInRange (m : Movement) : Type 0 where

@@ -7,7 +7,7 @@ use lib.IntN.{ℤ, pos, nat_abs}
 use lib.ListN.{length, get_or}
 use Rattle.integers.proofs.RingSolver.{con, ◌:-◌}
 use Rattle.integers.proofs.LinearFacts.{integers}
-use Rattle.integers.proofs.Order.{natAbs_by, natAbs_parts, natAbs_in_range, natAbs-+ℤ, natAbs-*ℤ-≤}
+use Rattle.integers.proofs.Order.{nat_abs_by, nat_abs_parts, nat_abs_in_range, nat_abs-+ℤ, nat_abs-*ℤ-≤}
 use Rattle.method.specs.Limits.{most_accident_years, greatest_outstanding, one_unit, greatest_figure}
 use Rattle.method.specs.Counting.{sum_to}
 use Rattle.method.specs.Triangle.{Triangle, n}
@@ -17,7 +17,7 @@ use Rattle.method.specs.RunOff.{Method, movement, last_observed, first_outstandi
 use Rattle.method.specs.AnswerPlaces.{AccidentYear, year_figure}
 use Rattle.method.proofs.QuestionFacts.{FiguresInRange, Accepted}
 use Rattle.method.proofs.Lists.{reserves_has_length, reserves_hold, ReservesPlace, every_reserves_place}
-use Rattle.method.proofs.Sums.{sum_natAbs}
+use Rattle.method.proofs.Sums.{sum_nat_abs}
 use Rattle.method.proofs.RunOff.{incurred_less_paid_is_closing}
 use Rattle.method.proofs.Projection.{method_keeps}
 
@@ -36,7 +36,7 @@ module _ (t : Triangle) (a : Accepted t) where
     figures_size : (f : Movement → ℤ) → ((x : Movement) → FiguresInRange x → nat_abs (f x) ≤ most)
         → nat_abs (sum_to (i - 1) (λ j. f (movement m i (year_before m i j)))) ≤ (i - 1) * most
     figures_size f h =
-        sum_natAbs (i - 1) most _
+        sum_nat_abs (i - 1) most _
         (λ j p q. h _ (a.figures i (year_before m i j) (record { row = y.last; after = omega (arith, y.last); year = omega (arith, y.last) })))
 
     paid_size : nat_abs (paid_reserve m i) ≤ 31 * most
@@ -46,14 +46,14 @@ module _ (t : Triangle) (a : Accepted t) where
     first_size : nat_abs (first_outstanding m i) ≤ most
     first_size =
         let seen = a.observed.outstanding i (last_observed m i) y.first (omega (arith, y.last)) (omega (arith, y.last)) (omega (arith, y.last, a.observed.cut.most)) in
-        le_trans (natAbs-*ℤ-≤ (R t i (last_observed m i)) one_unit (nat_abs greatest_outstanding) (nat_abs one_unit) (natAbs_in_range _ seen) (omega arith)) (omega arith)
+        le_trans (nat_abs-*ℤ-≤ (R t i (last_observed m i)) one_unit (nat_abs greatest_outstanding) (nat_abs one_unit) (nat_abs_in_range _ seen) (omega arith)) (omega arith)
 
     incurred_size : nat_abs (incurred_reserve m i) ≤ 32 * most
     unfolding incurred_reserve
     incurred_size = omega (
       arith,
       few,
-      natAbs-+ℤ (first_outstanding m i) (adjustments_to m i (i - 1)),
+      nat_abs-+ℤ (first_outstanding m i) (adjustments_to m i (i - 1)),
       first_size,
       figures_size (λ x. x.adjustment) (λ x f. omega (arith, integers, f.adjustment)),
     )
@@ -61,8 +61,8 @@ module _ (t : Triangle) (a : Accepted t) where
     closing_size : nat_abs (closing m i) ≤ 63 * most
     closing_size =
         subst (λ (x : ℤ). nat_abs x ≤ 63 * most) (incurred_less_paid_is_closing m (method_keeps t a).moves i y.first y.last)
-        (natAbs_by (con (incurred_reserve m i) :- con (paid_reserve m i)) (63 * most)
-        (omega (arith, paid_size, incurred_size, natAbs_parts (paid_reserve m i), natAbs_parts (incurred_reserve m i))))
+        (nat_abs_by (con (incurred_reserve m i) :- con (paid_reserve m i)) (63 * most)
+        (omega (arith, paid_size, incurred_size, nat_abs_parts (paid_reserve m i), nat_abs_parts (incurred_reserve m i))))
 
     three_sizes : (which : ℕ) → which < 3 → nat_abs (get_or (reserves_row m i) which (pos 0)) ≤ 63 * most
     unfolding reserves_row

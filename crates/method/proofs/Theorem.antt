@@ -181,7 +181,7 @@ module _ (t : Triangle) (exposures : ExposuresPositive t) where
       let exposure = exposures k a (omega arith) in
       same-≡ exposure (ap (λ x. x over (sums t k).D) (last_factor_zero t k e z)) and_so zero_over (sums t k).D exposure
 
-  -- ---- An outstanding is a product-from-to of factors
+  -- ---- An outstanding is a `product_from_to` of factors
 
   module _ (i : ℕ) (y : AccidentYear (n t) i) where
     abbrev u : ℕ → Fraction

@@ -14,7 +14,7 @@ use mir.Val.{SFits}
 use Rattle.integers.proofs.Difference.{fits→parts}
 use Rattle.integers.proofs.RingSolver.{con, ◌:+◌, ◌:-◌}
 use Rattle.integers.proofs.LinearFacts.{integers, fits_by}
-use Rattle.integers.proofs.Order.{natAbs_parts, natAbs_in_range}
+use Rattle.integers.proofs.Order.{nat_abs_parts, nat_abs_in_range}
 use Rattle.method.specs.Limits.{greatest_outstanding}
 use Rattle.method.specs.Triangle.{entry}
 use Rattle.method.specs.Verdicts.{accepted, refused, at}
@@ -41,7 +41,7 @@ pub less_payment_fits : (outstanding payment adjustment : ℤ) → SFits w64 out
 less_payment_fits o s t f m = go m.in_range_or_unmoved
   where
     go : (nat_abs o ≤ nat_abs greatest_outstanding) ⊎ ((s ≡ pos 0) × (t ≡ pos 0)) → SFits w64 (o -ℤ s)
-    go (inl h) = fits_by w64 (con o :- con s) (omega (arith, m.payment_size, natAbs_parts o, natAbs_parts s))
+    go (inl h) = fits_by w64 (con o :- con s) (omega (arith, m.payment_size, nat_abs_parts o, nat_abs_parts s))
     go (inr h) = fits_by w64 (con o :- con s) (omega (arith, integers, fits→parts f))
 
 pub next_fits : (outstanding payment adjustment : ℤ) → SFits w64 outstanding → Movable outstanding payment adjustment
@@ -49,7 +49,7 @@ pub next_fits : (outstanding payment adjustment : ℤ) → SFits w64 outstanding
 next_fits o s t f m = go m.in_range_or_unmoved
   where
     go : (nat_abs o ≤ nat_abs greatest_outstanding) ⊎ ((s ≡ pos 0) × (t ≡ pos 0)) → SFits w64 (o -ℤ s +ℤ t)
-    go (inl h) = fits_by w64 (con o :- con s :+ con t) (omega (arith, m.payment_size, m.adjustment_size, natAbs_parts o, natAbs_parts s, natAbs_parts t))
+    go (inl h) = fits_by w64 (con o :- con s :+ con t) (omega (arith, m.payment_size, m.adjustment_size, nat_abs_parts o, nat_abs_parts s, nat_abs_parts t))
     go (inr h) = fits_by w64 (con o :- con s :+ con t) (omega (arith, integers, fits→parts f))
 
 -- ---- The loop over a row
@@ -111,7 +111,7 @@ module _ (cut i : ℕ) (opening : ℤ) (payments adjustments : List ℤ) (right 
         }
           where
             go : Dec (cut ≤ i + (j + 1)) → (nat_abs next ≤ nat_abs greatest_outstanding) ⊎ (i + (j + 1) < cut)
-            go (yes h) = inl (natAbs_in_range next ((says_outstanding cut i (j + 1) next).sound p h))
+            go (yes h) = inl (nat_abs_in_range next ((says_outstanding cut i (j + 1) next).sound p h))
             go (no h) = inr (omega arith)
 
         pub next_year_refused : outstanding_in_range cut i (j + 1) next ≡ false

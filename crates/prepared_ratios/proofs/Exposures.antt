@@ -9,7 +9,7 @@ use mir.Syntax.{w64}
 use mir.Val.{Fits, SFits}
 use Rattle.integers.proofs.CommutativeRing.{<ℤ→≤ℤ}
 use Rattle.integers.proofs.LinearFacts.{integers}
-use Rattle.integers.proofs.Order.{natAbs_parts, natAbs_in_range, size_of_nonneg}
+use Rattle.integers.proofs.Order.{nat_abs_parts, nat_abs_in_range, size_of_nonneg}
 use Rattle.integers.proofs.MachineArithmetic.{fits_nat_abs}
 use Rattle.method.specs.SumLimits.{greatest_sum}
 use Rattle.prepared_ratios.specs.Ratio.{Exposure}
@@ -22,8 +22,8 @@ sum_fits x h = fits_nat_abs w64 x greatest_sum h (omega arith)
 module _ {exposure : ℤ} (positive : pos 0 <ℤ exposure) (most : exposure ≤ℤ pos greatest_sum) where
   pub exposed : Exposure (nat_abs exposure)
   exposed = record {
-    positive = omega (arith, integers, natAbs_parts exposure);
-    most = natAbs_in_range exposure (<ℤ→≤ℤ positive, most);
+    positive = omega (arith, integers, nat_abs_parts exposure);
+    most = nat_abs_in_range exposure (<ℤ→≤ℤ positive, most);
   }
 
   pub exposure_unsigned : T (non_neg exposure) × Fits w64 (nat_abs exposure)

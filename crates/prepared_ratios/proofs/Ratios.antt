@@ -11,7 +11,7 @@ use mir.Syntax.{w64}
 use mir.Val.{SFits, Fits}
 use Rattle.integers.proofs.RingSolver.{con, ◌:+◌, ◌:-◌, ◌:*◌, neg}
 use Rattle.integers.proofs.LinearFacts.{integers, ≡-by, ≤ℤ-by}
-use Rattle.integers.proofs.Order.{natAbs_parts, natAbs_by}
+use Rattle.integers.proofs.Order.{nat_abs_parts, nat_abs_by}
 use Rattle.method.specs.SumLimits.{greatest_sum}
 use Rattle.prepared_ratios.proofs.Signs.{unsigned}
 use Rattle.prepared_ratios.proofs.Exposures.{sum_fits}
@@ -44,7 +44,7 @@ floor_upward (negsuc n) h p v = absurd (omega (arith, integers))
 -- −1 − part is not negative
 module _ (part : ℤ) (h : lt_z part (pos 0) ≡ true) (l : nat_abs part ≤ greatest_sum) where
   pub downward-≤ : nat_abs (negsuc 0 -ℤ part) ≤ greatest_sum
-  downward-≤ = natAbs_by (con (negsuc 0) :- con part) greatest_sum (omega (arith, integers, natAbs_parts part))
+  downward-≤ = nat_abs_by (con (negsuc 0) :- con part) greatest_sum (omega (arith, integers, nat_abs_parts part))
 
   pub downward_fits : SFits w64 (negsuc 0 -ℤ part)
   downward_fits = sum_fits (negsuc 0 -ℤ part) downward-≤
@@ -62,7 +62,7 @@ floor_downward (negsuc n) {exposure} {r} h p v = record {
       ∙ ≡-by (neg (con (pos (r.quotient + 1))) :* con (pos exposure) :+ con (pos (exposure - 1 - r.remainder))) (con (negsuc n))
       (omega (arith, dividend_is p v, remainder-< p v, counted));
   below = omega (arith, remainder-< p v);
-  size = natAbs_by (con (negsuc 0) :- con (pos r.quotient)) (nat_abs (negsuc n)) (omega (arith, quotient-≤ p v, counted));
+  size = nat_abs_by (con (negsuc 0) :- con (pos r.quotient)) (nat_abs (negsuc n)) (omega (arith, quotient-≤ p v, counted));
 }
   where
     quotient_is : negsuc 0 -ℤ pos r.quotient ≡ neg_ℤ (pos (r.quotient + 1))

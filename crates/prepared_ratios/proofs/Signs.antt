@@ -10,7 +10,7 @@ use lib.Dec.{T}
 use mir.Syntax.{w64}
 use mir.Val.{SFits, Fits}
 use Rattle.integers.proofs.LinearFacts.{integers}
-use Rattle.integers.proofs.Order.{natAbs_negℤ}
+use Rattle.integers.proofs.Order.{nat_abs_neg_ℤ}
 use Rattle.integers.proofs.MachineArithmetic.{fits_nat_abs}
 use Rattle.prepared_ratios.specs.Ratio.{greatest_size}
 
@@ -21,7 +21,7 @@ unsigned (negsuc n) h l = absurd h.le
 -- ---- Without the sign
 
 pub negated_size : (x : ℤ) → nat_abs (pos 0 -ℤ x) ≡ nat_abs x
-negated_size x = ap nat_abs (+ℤ_idl (neg_ℤ x)) ∙ natAbs_negℤ x
+negated_size x = ap nat_abs (+ℤ_idl (neg_ℤ x)) ∙ nat_abs_neg_ℤ x
 
 pub negated_fits : (x : ℤ) → nat_abs x ≤ greatest_size → SFits w64 (pos 0 -ℤ x)
 negated_fits x h = fits_nat_abs w64 (pos 0 -ℤ x) greatest_size (le_trans (le_of_eq (negated_size x)) h) (omega arith)

@@ -11,7 +11,7 @@ use mir.Syntax.{w64}
 use mir.Val.{Fits, SFits}
 use Rattle.integers.proofs.RingSolver.{con, ◌:+◌, ◌:-◌}
 use Rattle.integers.proofs.LinearFacts.{parts, ≡-by, ≤ℤ-by}
-use Rattle.integers.proofs.Order.{natAbs_parts, natAbs-+ℤ, size_of_nonneg}
+use Rattle.integers.proofs.Order.{nat_abs_parts, nat_abs-+ℤ, size_of_nonneg}
 use Rattle.integers.proofs.MachineArithmetic.{fits_nat_abs}
 use Rattle.lists.proofs.Places.{FilledTo, none_filled, one_more_filled}
 use Rattle.method.specs.SumLimits.{greatest_sum, SumsInRange}
@@ -33,15 +33,15 @@ sums_of_prepared h p q e f = λ i. record { payments = e i; adjustments = f i; e
 
 module _ {r : Ratio} {exposure : ℕ} (ready : Ready r exposure) where
   raised_nonneg : pos 0 ≤ℤ (r.quotient +ℤ pos greatest_sum)
-  raised_nonneg = ≤ℤ-by (con (pos 0)) (con r.quotient :+ con (pos greatest_sum)) (omega (arith, natAbs_parts r.quotient, ready.quotient_most))
+  raised_nonneg = ≤ℤ-by (con (pos 0)) (con r.quotient :+ con (pos greatest_sum)) (omega (arith, nat_abs_parts r.quotient, ready.quotient_most))
 
   pub raised_unsigned : T (non_neg (r.quotient +ℤ pos greatest_sum)) × Fits w64 (nat_abs (r.quotient +ℤ pos greatest_sum))
   raised_unsigned = unsigned (r.quotient +ℤ pos greatest_sum) raised_nonneg
-      (omega (arith, natAbs-+ℤ r.quotient (pos greatest_sum), ready.quotient_most))
+      (omega (arith, nat_abs-+ℤ r.quotient (pos greatest_sum), ready.quotient_most))
 
   pub raised_fits : SFits w64 (r.quotient +ℤ pos greatest_sum)
   raised_fits = fits_nat_abs w64 (r.quotient +ℤ pos greatest_sum) (greatest_sum + greatest_sum)
-      (omega (arith, natAbs-+ℤ r.quotient (pos greatest_sum), ready.quotient_most)) (lit< tt)
+      (omega (arith, nat_abs-+ℤ r.quotient (pos greatest_sum), ready.quotient_most)) (lit< tt)
 
   pub lowered : pos (nat_abs (r.quotient +ℤ pos greatest_sum)) -ℤ pos greatest_sum ≡ r.quotient
   lowered =
@@ -50,7 +50,7 @@ module _ {r : Ratio} {exposure : ℕ} (ready : Ready r exposure) where
 
 -- the number that is kept for a quotient
 pub raised-< : (x : ℕ) → nat_abs (pos x -ℤ pos greatest_sum) ≤ greatest_sum → x < 2 ^ 63
-raised-< x h = omega (arith, natAbs_parts (pos x -ℤ pos greatest_sum), parts (con (pos x) :- con (pos greatest_sum)))
+raised-< x h = omega (arith, nat_abs_parts (pos x -ℤ pos greatest_sum), parts (con (pos x) :- con (pos greatest_sum)))
 
 -- ---- All years
 

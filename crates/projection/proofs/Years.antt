@@ -11,7 +11,7 @@ use mir.Syntax.{w64}
 use mir.Val.{SFits}
 use Rattle.integers.proofs.LinearFacts.{integers, fits_by}
 use Rattle.integers.proofs.RingSolver.{con, ◌:+◌, ◌:-◌}
-use Rattle.integers.proofs.Order.{natAbs_parts}
+use Rattle.integers.proofs.Order.{nat_abs_parts}
 use Rattle.integers.proofs.MachineArithmetic.{fits_nat_abs}
 use Rattle.method.specs.Limits.{greatest_figure}
 use Rattle.method.specs.Outstandings.{Sums}
@@ -159,6 +159,6 @@ module _ {r : ℤ} {s : Sums} (y : ProjectedYearInput r s) where
         outstanding = fits_by w64 (con r) (omega (arith, integers));
         payment = fits_nat_abs w64 x.0 greatest_size b (lit< tt);
         adjustment = fits_nat_abs w64 z.0 greatest_size d (lit< tt);
-        less_payment = fits_by w64 (con r :- con x.0) (omega (arith, integers, natAbs_parts x.0));
-        next = fits_by w64 (con r :- con x.0 :+ con z.0) (omega (arith, integers, natAbs_parts x.0, natAbs_parts z.0));
+        less_payment = fits_by w64 (con r :- con x.0) (omega (arith, integers, nat_abs_parts x.0));
+        next = fits_by w64 (con r :- con x.0 :+ con z.0) (omega (arith, integers, nat_abs_parts x.0, nat_abs_parts z.0));
       }

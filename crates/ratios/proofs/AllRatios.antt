@@ -7,7 +7,7 @@ use native.Mathlib.Decide.{dec_le}
 use native.Mathlib.Omega.{arith}
 use lib.IntN.{ℤ, pos, ◌+ℤ◌, ◌-ℤ◌, ◌*ℤ◌, nat_abs}
 use lib.ListN.{length, get_or, set, replicate, length-replicate}
-use Rattle.integers.proofs.Order.{natAbs_in_range}
+use Rattle.integers.proofs.Order.{nat_abs_in_range}
 use Rattle.lists.proofs.Places.{blank, FilledTo, none_filled, one_more_filled}
 use Rattle.method.specs.Limits.{greatest_outstanding, most_accident_years, most_ratios}
 use Rattle.method.specs.Triangle.{Triangle, n, S, T, w, entry}
@@ -25,7 +25,7 @@ use Rattle.ratios.proofs.DevelopmentYear.{same_sums}
 
 module _ (t : Triangle) (ok : Observed t) where
   outstanding_size : (r k : ℕ) → r + k ≤ n t → nat_abs (R t (suc r) k) ≤ nat_abs greatest_outstanding
-  outstanding_size r k l = natAbs_in_range (R t (suc r) k) (R_in_range t ok (suc r) k (omega arith) (omega arith))
+  outstanding_size r k l = nat_abs_in_range (R t (suc r) k) (R_in_range t ok (suc r) k (omega arith) (omega arith))
 
   pub first_year : FirstYear (n t) t.payments t.adjustments t.openings
   unfolding R

@@ -10,7 +10,7 @@ use lib.IntN.{ℤ, pos, ◌+ℤ◌, ◌-ℤ◌, ◌*ℤ◌, nat_abs}
 use lib.ListN.{length, get_or, set}
 use mir.Syntax.{w64}
 use mir.Val.{SFits}
-use Rattle.integers.proofs.Order.{natAbs-+ℤ}
+use Rattle.integers.proofs.Order.{nat_abs-+ℤ}
 use Rattle.integers.proofs.MachineArithmetic.{fits_nat_abs}
 use Rattle.lists.proofs.Places.{FilledTo, none_filled, one_more_filled}
 use Rattle.method.specs.SumLimits.{greatest_term, greatest_sum}
@@ -38,7 +38,7 @@ module _ (sum weight amount : ℤ) (h : Summable sum weight amount) where
 
   pub sum_fits : SFits w64 (sum +ℤ weight *ℤ amount)
   sum_fits = fits_nat_abs w64 (sum +ℤ weight *ℤ amount) (greatest_sum + greatest_term)
-      (omega (arith, natAbs-+ℤ sum (weight *ℤ amount), h.sum_size, term_small)) (lit< tt)
+      (omega (arith, nat_abs-+ℤ sum (weight *ℤ amount), h.sum_size, term_small)) (lit< tt)
 
 -- ---- Three sums are those of document 01 where each is
 

@@ -11,7 +11,7 @@ use mir.Syntax.{w64}
 use mir.Val.{SFits}
 use Rattle.integers.proofs.RingSolver.{ring, ◌:=◌, con, ◌:+◌, ◌:-◌, ◌:*◌, neg}
 use Rattle.integers.proofs.LinearFacts.{integers, parts, ≡-by, ≤ℤ-by, <ℤ-by}
-use Rattle.integers.proofs.Order.{natAbs_by, natAbs_negℤ, natAbs-+ℤ}
+use Rattle.integers.proofs.Order.{nat_abs_by, nat_abs_neg_ℤ, nat_abs-+ℤ}
 use Rattle.integers.proofs.MachineArithmetic.{fits_nat_abs}
 use Rattle.method.specs.Limits.{one_unit}
 use Rattle.workbook.specs.Pairs.{whole_units, remaining_millionths}
@@ -34,7 +34,7 @@ remainder_above (negsuc a) d h = <ℤ-by (neg (con (pos d))) (neg (con (pos (suc
 
 quotient_size : (z : ℤ) (d : ℕ) → nat_abs (quot_z z (pos d)) ≡ nat_abs z / d
 quotient_size (pos a) d = refl
-quotient_size (negsuc a) d = natAbs_negℤ (pos (suc a / d))
+quotient_size (negsuc a) d = nat_abs_neg_ℤ (pos (suc a / d))
 
 -- ---- An amount of 64 bits, cut into units and millionths
 
@@ -62,11 +62,11 @@ pub small_fits : (x : ℤ) → nat_abs x ≤ most_units → SFits w64 x
 small_fits x h = fits_nat_abs w64 x most_units h (lit< tt)
 
 pub small_sum_fits : (x y : ℤ) → nat_abs x ≤ most_units → nat_abs y ≤ nat_abs one_unit → SFits w64 (x +ℤ y)
-small_sum_fits x y h k = fits_nat_abs w64 (x +ℤ y) (most_units + 1_000_000) (omega (arith, natAbs-+ℤ x y)) (lit< tt)
+small_sum_fits x y h k = fits_nat_abs w64 (x +ℤ y) (most_units + 1_000_000) (omega (arith, nat_abs-+ℤ x y)) (lit< tt)
 
 module _ {z units millionths : ℤ} (c : Cut z units millionths) where
   pub small_millionths : nat_abs millionths ≤ most_units
-  small_millionths = natAbs_by (con millionths) most_units (omega (arith, integers, c.above, c.below))
+  small_millionths = nat_abs_by (con millionths) most_units (omega (arith, integers, c.above, c.below))
 
   pub pair_of_cut : lt_z millionths (pos 0) ≡ false → (units ≡ whole_units z) × (millionths ≡ remaining_millionths z)
   pair_of_cut t = pair_unique z units millionths c.whole (≤ℤ-by (con (pos 0)) (con millionths) (omega (arith, integers, t))) c.below

@@ -7,7 +7,7 @@ use lib.IntN.{ℤ, ◌+ℤ◌}
 use mir.Syntax.{w64}
 use mir.Val.{SFits}
 use Rattle.integers.proofs.MachineArithmetic.{fits_nat_abs}
-use Rattle.integers.proofs.Order.{natAbs-+ℤ}
+use Rattle.integers.proofs.Order.{nat_abs-+ℤ}
 use Rattle.method.specs.Limits.{most_accident_years}
 use Rattle.share.specs.declared.millionths.Millionths.{Millionths}
 use Rattle.prepared_ratios.specs.Ratio.{greatest_size}
@@ -32,4 +32,4 @@ module _ {sum figure : ℤ} (a : FigureAddable sum figure) where
 
   pub total_fits : SFits w64 (sum +ℤ figure)
   total_fits = fits_nat_abs w64 (sum +ℤ figure) (most_accident_years * greatest_size + greatest_size)
-      (omega (arith, natAbs-+ℤ sum figure, a.sum_size, a.figure_size)) (lit< tt)
+      (omega (arith, nat_abs-+ℤ sum figure, a.sum_size, a.figure_size)) (lit< tt)

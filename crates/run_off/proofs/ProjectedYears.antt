@@ -13,7 +13,7 @@ use mir.Syntax.{w64}
 use mir.Val.{Fits}
 use Rattle.integers.proofs.RingSolver.{con, ◌:+◌, ◌:*◌, ◌:=◌, ring}
 use Rattle.integers.proofs.LinearFacts.{integers, ≤ℤ-by}
-use Rattle.integers.proofs.Order.{*ℤ-nonneg, natAbs_in_range, natAbs-+ℤ, natAbs-≤}
+use Rattle.integers.proofs.Order.{*ℤ-nonneg, nat_abs_in_range, nat_abs-+ℤ, nat_abs-≤}
 use Rattle.method.specs.Limits.{one_unit, greatest_figure, most_accident_years}
 use Rattle.method.specs.Counting.{up_to, sum_to}
 use Rattle.method.specs.Triangle.{entry}
@@ -25,7 +25,7 @@ use Rattle.method.specs.Verdicts.{Verdict, at, ask}
 use Rattle.method.specs.Questions.{figures_in_range}
 use Rattle.method.proofs.Counting.{up_to_none}
 use Rattle.method.proofs.Lists.{years_length}
-use Rattle.method.proofs.Sums.{sum_none, sum_more, sum_natAbs}
+use Rattle.method.proofs.Sums.{sum_none, sum_more, sum_nat_abs}
 use Rattle.method.proofs.FirstRefusal.{ask_yes, ask_accepted, first_accepted, PassedSoFar, none_asked, next_accepted}
 use Rattle.method.proofs.QuestionFacts.{FiguresInRange, figures_in_range_true}
 use Rattle.method.proofs.Projection.{next_nonneg}
@@ -122,7 +122,7 @@ module _ {n : ℕ} {years : List (List ℕ)} {outstandings : List ℤ} (ok : Pro
       let small = (figures_in_range_true _ (f (suc j) (omega arith) (omega arith))).outstanding in
       subst (λ (x : ℕ). InRange (O m i x)) e (subst InRange (sym (O_projected m i k (omega arith))) (
         next_nonneg (O m i k) (sums_at (ratios_of years) k) s.D_positive before.0 s.factor_nonneg,
-        ((natAbs-≤ _ greatest_size).0 (omega (arith, integers, small))).1,
+        ((nat_abs-≤ _ greatest_size).0 (omega (arith, integers, small))).1,
       ))
 
   module _ {s : RowState} (r : RowSoFar m i s) where
@@ -140,7 +140,7 @@ module _ {n : ℕ} {years : List (List ℕ)} {outstandings : List ℤ} (ok : Pro
     -- a sum of one figure of each year behind
     sum_size : (f : meaning.Movement → ℤ) → ((x : meaning.Movement) → FiguresInRange x → nat_abs (f x) ≤ greatest_size)
         → nat_abs (sum_to j (λ a. f (movement m i (year_before m i a)))) ≤ j * greatest_size
-    sum_size f h = sum_natAbs j greatest_size _ (λ a p q. h _ (figures_in_range_true _ (passed a p q)))
+    sum_size f h = sum_nat_abs j greatest_size _ (λ a p q. h _ (figures_in_range_true _ (passed a p q)))
 
     module _ (more : j + 1 < i) where
       few : j + 2 ≤ most_accident_years
@@ -161,8 +161,8 @@ module _ {n : ℕ} {years : List (List ℕ)} {outstandings : List ℤ} (ok : Pro
           (omega (
             arith,
             few,
-            natAbs-+ℤ (first_outstanding m i) (adjustments_to m i j),
-            natAbs_in_range (first_outstanding m i) first_in_range,
+            nat_abs-+ℤ (first_outstanding m i) (adjustments_to m i j),
+            nat_abs_in_range (first_outstanding m i) first_in_range,
             sum_size (λ x. x.adjustment) (λ x f. omega (arith, integers, f.adjustment)),
           ))
 

@@ -4,7 +4,7 @@ use borrow.Author.Tests.{lt-leb}
 use Rattle.method.specs.Limits.{greatest_figure}
 use Rattle.method.specs.Tests.{from_to, figure_in_range}
 use Rattle.method.proofs.Tests.{Says, differ, tells_which, says_leb, says_map, says_from_to}
-use Rattle.integers.proofs.Order.{natAbs-≤}
+use Rattle.integers.proofs.Order.{nat_abs-≤}
 use Rattle.prepared_ratios.specs.Ratio.{greatest_size}
 use Rattle.share.specs.declared.millionths.Millionths.{Millionths}
 use Rattle.share.specs.declared.Share.{Share}
@@ -24,7 +24,7 @@ same_test {a = false} {b = false} s r = refl
 range_is : (x : ℤ) → from_to (neg_ℤ greatest_figure) greatest_figure x ≡ figure_in_range x
 unfolding figure_in_range
 range_is x =
-    let size = natAbs-≤ x greatest_size in
+    let size = nat_abs-≤ x greatest_size in
     same_test (says_map size.1 size.0 (says_from_to (neg_ℤ greatest_figure) greatest_figure x)) (says_leb (nat_abs x) greatest_size)
 
 pub in_range_rounded : (x : ℤ) → from_to (neg_ℤ greatest_figure) greatest_figure x ≡ true → Rounded (record { 0 = x }) ≡ share_or_too_large x

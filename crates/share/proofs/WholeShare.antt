@@ -2,7 +2,7 @@
 use Rattle.std.proofs.Common.{◌≡◌, ℕ, ◌+◌, ◌^◌, ◌<◌, ◌≤◌, ℤ, pos, negsuc, ◌+ℤ◌, ◌-ℤ◌, ◌*ℤ◌, neg_ℤ, nat_abs, ◌≤ℤ◌, ◌<ℤ◌, sym, ap, ◌∙◌, subst, le_trans, le_of_eq, arith, w64, SFits}
 use Rattle.integers.proofs.RingSolver.{ring, con, ◌:=◌, ◌:+◌, ◌:-◌, ◌:*◌}
 use Rattle.integers.proofs.LinearFacts.{parts, <ℤ-by}
-use Rattle.integers.proofs.Order.{natAbs_parts, natAbs_in_range, natAbs-*ℤ, natAbs-+ℤ, size_of_nonneg}
+use Rattle.integers.proofs.Order.{nat_abs_parts, nat_abs_in_range, nat_abs-*ℤ, nat_abs-+ℤ, size_of_nonneg}
 use Rattle.integers.proofs.MachineArithmetic.{fits_nat_abs}
 use Rattle.integers.proofs.Rounding as rounding
 use Rattle.method.specs.ProjectedYear.{share}
@@ -29,13 +29,13 @@ nearest_by_leftover x d q l e low high = record { low = subst (λ t. neg_ℤ d �
     left = ring 3 (λ q d l. l := q :* d :+ l :- q :* d) tt q d l ∙ ap (λ t. t -ℤ q *ℤ d) (sym e)
 
 -- one number more takes no more than itself from a size
-natAbs_plus-≥ : (x : ℤ) (q : ℕ) → nat_abs x ≤ nat_abs (x +ℤ pos q) + q
-natAbs_plus-≥ (pos n) q = omega (arith, natAbs_parts (pos n +ℤ pos q), parts (con (pos n) :+ con (pos q)))
-natAbs_plus-≥ (negsuc n) q = omega (arith, natAbs_parts (negsuc n +ℤ pos q), parts (con (negsuc n) :+ con (pos q)))
+nat_abs_plus-≥ : (x : ℤ) (q : ℕ) → nat_abs x ≤ nat_abs (x +ℤ pos q) + q
+nat_abs_plus-≥ (pos n) q = omega (arith, nat_abs_parts (pos n +ℤ pos q), parts (con (pos n) :+ con (pos q)))
+nat_abs_plus-≥ (negsuc n) q = omega (arith, nat_abs_parts (negsuc n +ℤ pos q), parts (con (negsuc n) :+ con (pos q)))
 
 module _ {o : ℤ} {ratio : Ratio} {exposure : ℕ} (i : ShareInput o ratio exposure) where
   pub outstanding-≤ : nat_abs o ≤ greatest_size
-  outstanding-≤ = natAbs_in_range o (i.outstanding_nonneg, i.outstanding_most)
+  outstanding-≤ = nat_abs_in_range o (i.outstanding_nonneg, i.outstanding_most)
 
   pub outstanding_fits : SFits w64 o
   outstanding_fits = fits_nat_abs w64 o greatest_size outstanding-≤ (omega arith)
@@ -70,15 +70,15 @@ module _ {o : ℤ} {ratio : Ratio} {exposure : ℕ} (i : ShareInput o ratio expo
     beyond_reach h = past_limit_too_large value large ∙ ap share_or_too_large value_is
       where
         large : greatest_size < nat_abs value
-        large = omega (arith, i.ready.reach.beyond (nat_abs o) h outstanding-≤, natAbs-*ℤ o ratio.quotient, natAbs_plus-≥ (o *ℤ ratio.quotient) near.quotient, n.most, outstanding-≤)
+        large = omega (arith, i.ready.reach.beyond (nat_abs o) h outstanding-≤, nat_abs-*ℤ o ratio.quotient, nat_abs_plus-≥ (o *ℤ ratio.quotient) near.quotient, n.most, outstanding-≤)
 
     module _ (h : nat_abs o ≤ ratio.reach) where
       product-≤ : nat_abs (o *ℤ ratio.quotient) ≤ greatest_product
-      product-≤ = le_trans (le_of_eq (natAbs-*ℤ o ratio.quotient)) (i.ready.reach.within (nat_abs o) h)
+      product-≤ = le_trans (le_of_eq (nat_abs-*ℤ o ratio.quotient)) (i.ready.reach.within (nat_abs o) h)
 
       pub product_fits : SFits w64 (o *ℤ ratio.quotient)
       product_fits = fits_nat_abs w64 (o *ℤ ratio.quotient) greatest_product product-≤ (omega arith)
 
       pub value_fits : SFits w64 value
       value_fits = fits_nat_abs w64 value (greatest_product + greatest_size)
-          (omega (arith, natAbs-+ℤ (o *ℤ ratio.quotient) (pos near.quotient), product-≤, n.most, outstanding-≤)) (omega arith)
+          (omega (arith, nat_abs-+ℤ (o *ℤ ratio.quotient) (pos near.quotient), product-≤, n.most, outstanding-≤)) (omega arith)

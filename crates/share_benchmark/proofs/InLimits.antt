@@ -6,7 +6,7 @@ use native.Mathlib.Omega.{arith}
 use lib.IntN.{ℤ, pos, neg_ℤ, nat_abs}
 use lib.Signed.{◌≤ℤ◌, ◌<ℤ◌}
 use Rattle.integers.proofs.LinearFacts.{integers}
-use Rattle.integers.proofs.Order.{natAbs-≤}
+use Rattle.integers.proofs.Order.{nat_abs-≤}
 use Rattle.method.specs.SumLimits.{greatest_sum}
 use Rattle.method.specs.Tests.{from_to}
 use Rattle.method.proofs.Tests.{and-true, from_to_true}
@@ -20,7 +20,7 @@ module _ (part exposure : ℤ) (h : in_limits part exposure ≡ true) where
   range = from_to_true (pos 1) (pos greatest_sum) exposure both.1
 
   pub part_size : nat_abs part ≤ greatest_sum
-  part_size = (natAbs-≤ part greatest_sum).1 (from_to_true (neg_ℤ (pos greatest_sum)) (pos greatest_sum) part both.0)
+  part_size = (nat_abs-≤ part greatest_sum).1 (from_to_true (neg_ℤ (pos greatest_sum)) (pos greatest_sum) part both.0)
 
   pub exposure_positive : pos 0 <ℤ exposure
   exposure_positive = omega (arith, integers, range.0)

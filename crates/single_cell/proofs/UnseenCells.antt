@@ -8,7 +8,7 @@ use mir.Syntax.{w64}
 use mir.Val.{SFits}
 use Rattle.integers.proofs.RingSolver.{con, ◌:+◌, ◌:-◌}
 use Rattle.integers.proofs.LinearFacts.{integers, ≤ℤ-by, <ℤ-by, fits_by, parts}
-use Rattle.integers.proofs.Order.{natAbs_parts}
+use Rattle.integers.proofs.Order.{nat_abs_parts}
 use Rattle.method.specs.Tests.{from_to}
 use Rattle.method.specs.Questions.{cell_unseen}
 use Rattle.method.proofs.Tests.{is_true, true_is, from_to_true}
@@ -49,9 +49,9 @@ out_of_range_unseen years i k e = rw e
 -- within 64 bits
 module _ {years : ℤ} (y : YearsInRange years) where
   pub years_fit : SFits w64 (years +ℤ pos 2)
-  years_fit = fits_by w64 (con years :+ con (pos 2)) (omega (arith, integers, natAbs_parts years, y.most))
+  years_fit = fits_by w64 (con years :+ con (pos 2)) (omega (arith, integers, nat_abs_parts years, y.most))
 
   pub first_unseen_fits : (i : ℤ) → from_to (pos 2) years i ≡ true → SFits w64 (years +ℤ pos 2 -ℤ i)
   first_unseen_fits i e =
       let h = from_to_true (pos 2) years i e in
-      fits_by w64 (con years :+ con (pos 2) :- con i) (omega (arith, integers, natAbs_parts years, y.most, h.0, h.1))
+      fits_by w64 (con years :+ con (pos 2) :- con i) (omega (arith, integers, nat_abs_parts years, y.most, h.0, h.1))

@@ -11,7 +11,7 @@ use mir.Syntax.{w64}
 use mir.Val.{SFits}
 use Rattle.integers.proofs.RingSolver.{Expression, ring, ◌:=◌, con, ◌:+◌, ◌:-◌, ◌:*◌}
 use Rattle.integers.proofs.LinearFacts.{integers, parts, ≤ℤ-by, <ℤ-by}
-use Rattle.integers.proofs.Order.{natAbs_parts, natAbs_by}
+use Rattle.integers.proofs.Order.{nat_abs_parts, nat_abs_by}
 use Rattle.integers.proofs.Rounding.{floor-≤, floor-<, floor_unique}
 use Rattle.floats.specs.WholeNumbers.{the, whole_number, float_of, minus_zero}
 use Rattle.floats.specs.Reading.{most_exact}
@@ -64,12 +64,12 @@ pub amount_of_64_bits : (z : ℤ) → SFits w64 z → nat_abs z ≤ most_exact_a
 amount_of_64_bits z f = omega (arith, nat_abs-le z f.sfits)
 
 pub millionths_in_range : (z : ℤ) → nat_abs (remaining_millionths z) ≤ most_exact
-millionths_in_range z = natAbs_by (con (remaining_millionths z)) most_exact (omega (arith, integers, millionths_not_negative z, millionths_below_unit z))
+millionths_in_range z = nat_abs_by (con (remaining_millionths z)) most_exact (omega (arith, integers, millionths_not_negative z, millionths_below_unit z))
 
 pub units_in_range : (z : ℤ) → nat_abs z ≤ most_exact_amount → nat_abs (whole_units z) ≤ most_exact
 units_in_range z h =
-    natAbs_by (con (whole_units z)) most_exact
-    (omega (arith, integers, natAbs_parts z, floor-≤ z one_unit unit_positive, floor-< z one_unit unit_positive, parts (product z), parts (product z :+ con one_unit)))
+    nat_abs_by (con (whole_units z)) most_exact
+    (omega (arith, integers, nat_abs_parts z, floor-≤ z one_unit unit_positive, floor-< z one_unit unit_positive, parts (product z), parts (product z :+ con one_unit)))
 
 pub units_exact : (z : ℤ) → nat_abs z ≤ most_exact_amount → whole_number (float_of (whole_units z)) ≡ the (whole_units z)
 units_exact z h = float_exact (whole_units z) (units_in_range z h)

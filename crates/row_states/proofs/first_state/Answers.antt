@@ -6,7 +6,7 @@ use native.Mathlib.Omega.{arith}
 use lib.IntN.{pos, nat_abs}
 use lib.ListN.{get_or}
 use Rattle.integers.proofs.MachineArithmetic.{Held}
-use Rattle.integers.proofs.Order.{natAbs_in_range}
+use Rattle.integers.proofs.Order.{nat_abs_in_range}
 use Rattle.method.specs.Triangle.{entry}
 use Rattle.method.proofs.Positions.{entry_place}
 use Rattle.row_states.proofs.States.{millionths, same_state}
@@ -19,7 +19,7 @@ from_units-outstanding-requires c =
     simp read (rw (entry_place a.outstandings.now a.i c.requires.0) small)
   where
     small : nat_abs (entry c.args.outstandings.now c.args.i) ≤ 9_223_372_036_854
-    small = omega (arith, natAbs_in_range _ (c.requires.2, c.requires.3))
+    small = omega (arith, nat_abs_in_range _ (c.requires.2, c.requires.3))
 
 pub returns : goal.returns
 returns c =
