@@ -1,12 +1,12 @@
 -- Weights where a text gives none, filled in from the left.
 use mathlib.Core.Path.{◌≡◌, refl, sym, ap, ap₂, ◌∙◌}
-use mathlib.Core.List.{List, ◌++◌, append_assoc, append-nil}
-use Prim.Native.Nat.{ℕ, zero, suc, ◌+◌, ◌-◌, ◌≤◌, ◌<◌}
-use native.Mathlib.Nat.{suc-mul, mul-suc}
-use native.Mathlib.Numerals.{add-one}
+use mathlib.Core.List.{List, ◌∷◌, ◌++◌, append_assoc, append-nil}
+use Prim.Native.Nat.{ℕ, zero, suc, ◌+◌, ◌-◌, ◌≤◌, ◌<◌, min}
+use native.Mathlib.Nat.{suc-mul, mul-suc, min-zero, zero-sub}
+use native.Mathlib.Numerals.{add-one, unary_clauses}
 use native.Mathlib.Omega.{arith}
 use lib.IntN.{ℤ, pos}
-use lib.ListN.{length, get_or, take, drop}
+use lib.ListN.{length, take, drop, replicate}
 use lib.Seq.{take-add, length-take-le}
 use Rattle.lists.proofs.Parts.{PartBack}
 use Rattle.method.specs.Triangle.{amounts_length}
@@ -20,20 +20,12 @@ row_length missing zero = refl
 row_length zero (suc cells) = ap suc (row_length zero cells)
 row_length (suc missing) (suc cells) = ap suc (row_length missing cells)
 
-pub weight_missing : (missing cells k : ℕ) → k < cells → k < missing → pos 0 ≡ get_or (default_row missing cells) k (pos 0)
+-- the missing weights, and those that are known
+pub row_by_parts : (missing cells : ℕ) → default_row missing cells ≡ replicate (min missing cells) (pos 0) ++ replicate (cells - missing) (pos 1)
 unfolding default_row
-weight_missing missing zero k inside h = absurd (omega arith)
-weight_missing zero (suc cells) k inside h = absurd (omega arith)
-weight_missing (suc missing) (suc cells) zero inside h = refl
-weight_missing (suc missing) (suc cells) (suc k) inside h = weight_missing missing cells k (omega arith) (omega arith)
-
-pub weight_known : (missing cells k : ℕ) → k < cells → missing ≤ k → pos 1 ≡ get_or (default_row missing cells) k (pos 0)
-unfolding default_row
-weight_known missing zero k inside h = absurd (omega arith)
-weight_known zero (suc cells) zero inside h = refl
-weight_known zero (suc cells) (suc k) inside h = weight_known zero cells k (omega arith) (omega arith)
-weight_known (suc missing) (suc cells) zero inside h = absurd (omega arith)
-weight_known (suc missing) (suc cells) (suc k) inside h = weight_known missing cells k (omega arith) (omega arith)
+row_by_parts missing zero = rw (min-zero missing, zero-sub missing) refl
+row_by_parts zero (suc cells) = simp unary_clauses (ap (λ row. pos 1 ∷ row) (simp unary_clauses at (row_by_parts zero cells)))
+row_by_parts (suc missing) (suc cells) = simp unary_clauses (ap (λ row. pos 0 ∷ row) (row_by_parts missing cells))
 
 -- ---- Row after row
 

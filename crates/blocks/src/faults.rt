@@ -1,9 +1,12 @@
 // What is wrong with a text, and where.
-use heading_faults::HeadingFault;
+ghost use Rattle.std.specs.Prelude.{◌≡◌};
+ghost use Rattle.blocks.specs.Blocks.{of_heading};
+
+use heading_faults::{HeadingFault, MisplacedLine};
 use row_text::entries::CellFault;
 
 // What was expected.
-#[derive(Clone, Copy)]
+#[derive(Clone, Copy, PartialEq, Eq)]
 pub enum Expected {
     InHeading(HeadingFault),
     InCell(CellFault),
@@ -12,8 +15,23 @@ pub enum Expected {
 }
 
 // The first fault of a text: its line and its cell, counted from 1, the cell 0 where the whole line is meant.
-#[derive(Clone, Copy)]
-pub enum Fault {
-    Nothing,
-    At(usize, usize, Expected),
+// The cell is no Option: the definition of a text that is malformed has a number there, 0 for the whole line, and its worked texts write it.
+#[derive(Clone, Copy, PartialEq, Eq)]
+pub struct Fault {
+    pub line: usize,
+    pub cell: usize,
+    pub expected: Expected,
+}
+
+// A line that stands in no place of its own is meant as a whole.
+impl From<MisplacedLine> for Fault {
+    ghost from_gives = { λ line fault. fault ≡ of_heading line };
+
+    fn from(line: MisplacedLine) -> Fault {
+        Fault {
+            line: line.line,
+            cell: 0,
+            expected: Expected::InHeading(line.expected),
+        }
+    }
 }

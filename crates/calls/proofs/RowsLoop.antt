@@ -7,17 +7,19 @@ use native.Mathlib.Omega.{arith}
 use lib.IntN.{ℤ}
 use lib.ListN.{length, take}
 use lib.Seq.{sets, length-sets, take_all}
+use Rattle.std.proofs.Common.{Some, Ok, Err}
 use Rattle.lists.proofs.Stored.{sets_filled}
 use Rattle.method.specs.Counting.{list_to}
 use Rattle.method.specs.Triangle.{future_length, reserves_length}
 use Rattle.method.specs.RunOff.{Method, future_row, future, reserves_row, reserves}
-use Rattle.method.specs.Verdicts.{Place, accepted, refused}
+use Rattle.method.specs.Verdicts.{accepted}
 use Rattle.method.specs.Questions.{question_9_of_year, question_9}
 use Rattle.method.specs.AnswerPlaces.{unseen_before}
 use Rattle.method.proofs.Counting.{up_to_none, up_to_more}
 use Rattle.method.proofs.FirstRefusal.{not_both, PassedSoFar, none_asked, next_accepted, next_refused, all_accepted}
 use Rattle.method.proofs.Positions.{unseen_before_more, unseen_before_mono, unseen_cells}
-use Rattle.verdicts.specs.Verdicts.{verdict_of}
+use Rattle.verdicts.specs.declared.verdict.Refusal.{Refusal}
+use Rattle.verdicts.specs.Verdicts.{refused_by}
 use Rattle.run_off.specs.declared.rows.ProjectedRow.{ProjectedRow}
 use Rattle.run_off.specs.Rows.{RowWritten}
 use Rattle.run_off.proofs.RowAnswers.{row_list_length, figures_in_place, reserves_answered}
@@ -62,41 +64,39 @@ module _ {m : Method} {future_list reserve_list : List ℤ} where
       pub reserves_room : 3 * r + 3 ≤ length reserve_list
       reserves_room = omega (arith, s.reserves_whole)
 
-      module _ {after : List ℤ} {row : ProjectedRow} (w : RowWritten m (r + 1) place future_list row after) where
-        pub row_refused : {question : ℕ} {q : Place} → verdict_of row.verdict ≡ refused question q
-            → RowsProjected m (verdict_of row.verdict) after reserve_list
-        unfolding question_9
-        row_refused e = record {
-          verdict_is = e ∙ sym (next_refused s.asked more (sym w.answered.verdict_is ∙ e));
-          future_is = λ a. absurd (not_both a e);
-          reserves_are = λ a. absurd (not_both a e);
-        }
+      pub row_refused : {after : List ℤ} {refusal : Refusal} → RowWritten m (r + 1) (Some place) future_list (Err refusal) after → RowsProjected m (refused_by refusal) after reserve_list
+      unfolding question_9
+      row_refused w = record {
+        verdict_is = sym (next_refused s.asked more (sym w.answered.verdict_is));
+        future_is = λ a. absurd (not_both a refl);
+        reserves_are = λ a. absurd (not_both a refl);
+      }
 
-        module _ (e : verdict_of row.verdict ≡ accepted) where
-          abbrev three : List ℤ
-          three = row.paid.0 ∷ row.incurred.0 ∷ row.closing.0 ∷ []
+      module _ {after : List ℤ} {row : ProjectedRow} (w : RowWritten m (r + 1) (Some place) future_list (Ok row) after) where
+        abbrev three : List ℤ
+        three = row.paid.0 ∷ row.incurred.0 ∷ row.closing.0 ∷ []
 
-          figures_written : take (place + 3 * r) after ≡ take place future_list ++ future_row m (suc r)
-          figures_written =
-              let f : r ≡ r + 1 - 1 = omega arith in
-              ap (λ (x : ℕ). take (place + 3 * x) after) f ∙ figures_in_place w e future_room
-              ∙ ap (λ (i : ℕ). take place future_list ++ future_row m i) (add-one r)
+        figures_written : take (place + 3 * r) after ≡ take place future_list ++ future_row m (suc r)
+        figures_written =
+            let f : r ≡ r + 1 - 1 = omega arith in
+            ap (λ (x : ℕ). take (place + 3 * x) after) f ∙ figures_in_place w future_room
+            ∙ ap (λ (i : ℕ). take place future_list ++ future_row m i) (add-one r)
 
-          reserves_written : take (3 * suc r) (sets reserve_list (3 * r) three) ≡ take (3 * r) reserve_list ++ reserves_row m (suc r)
-          reserves_written =
-              let f : 3 * suc r ≡ 3 * r + 3 = omega arith in
-              ap (λ (x : ℕ). take x (sets reserve_list (3 * r) three)) f ∙ sets_filled three reserve_list (3 * r) reserves_room
-              ∙ ap (λ (xs : List ℤ). take (3 * r) reserve_list ++ xs) (reserves_answered w e ∙ ap (reserves_row m) (add-one r))
+        reserves_written : take (3 * suc r) (sets reserve_list (3 * r) three) ≡ take (3 * r) reserve_list ++ reserves_row m (suc r)
+        reserves_written =
+            let f : 3 * suc r ≡ 3 * r + 3 = omega arith in
+            ap (λ (x : ℕ). take x (sets reserve_list (3 * r) three)) f ∙ sets_filled three reserve_list (3 * r) reserves_room
+            ∙ ap (λ (xs : List ℤ). take (3 * r) reserve_list ++ xs) (reserves_answered w ∙ ap (reserves_row m) (add-one r))
 
-          pub next_row : RowsSoFar m after (sets reserve_list (3 * r) three) (place + 3 * r) (r + 1)
-          next_row = subst (RowsSoFar m after (sets reserve_list (3 * r) three) (place + 3 * r)) (sym (add-one r)) (record {
-            asked = subst (PassedSoFar m.years (question_9_of_year m)) (add-one r) (next_accepted s.asked more (sym w.answered.verdict_is ∙ e));
-            place_is = next_place;
-            future_whole = row_list_length w ∙ s.future_whole;
-            reserves_whole = length-sets reserve_list (3 * r) three ∙ s.reserves_whole;
-            future_filled = figures_written ∙ ap (λ (xs : List ℤ). xs ++ future_row m (suc r)) s.future_filled ∙ sym (up_to_more ◌++◌ [] r (future_row m));
-            reserves_filled = reserves_written ∙ ap (λ (xs : List ℤ). xs ++ reserves_row m (suc r)) s.reserves_filled ∙ sym (up_to_more ◌++◌ [] r (reserves_row m));
-          })
+        pub next_row : RowsSoFar m after (sets reserve_list (3 * r) three) (place + 3 * r) (r + 1)
+        next_row = subst (RowsSoFar m after (sets reserve_list (3 * r) three) (place + 3 * r)) (sym (add-one r)) (record {
+          asked = subst (PassedSoFar m.years (question_9_of_year m)) (add-one r) (next_accepted s.asked more (sym w.answered.verdict_is));
+          place_is = next_place;
+          future_whole = row_list_length w ∙ s.future_whole;
+          reserves_whole = length-sets reserve_list (3 * r) three ∙ s.reserves_whole;
+          future_filled = figures_written ∙ ap (λ (xs : List ℤ). xs ++ future_row m (suc r)) s.future_filled ∙ sym (up_to_more ◌++◌ [] r (future_row m));
+          reserves_filled = reserves_written ∙ ap (λ (xs : List ℤ). xs ++ reserves_row m (suc r)) s.reserves_filled ∙ sym (up_to_more ◌++◌ [] r (reserves_row m));
+        })
 
     pub all_rows : m.years ≤ r → RowsProjected m accepted future_list reserve_list
     unfolding question_9 future reserves

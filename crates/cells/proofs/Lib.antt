@@ -1,3 +1,2 @@
 -- Laws that serve several functions, from below.
-pub mod RowWalk
-pub mod CellTests
+pub mod CellWalk

@@ -1,34 +1,16 @@
--- Questions 4, 5 and 7 as tests of the numbers of one list.
-use Rattle.std.specs.Prelude.{Bool, List, ℕ, ◌-◌, ℤ, pos, length, take, drop}
-use Rattle.method.specs.Triangle.{cell, entry, cells_before}
-use Rattle.method.specs.Verdicts.{Verdict, at, ask, first_to, each_cell}
-use Rattle.method.specs.Tests.{weight_in_range, amount_right, weight_allowed}
-use Rattle.cells.specs.declared.CellTest.{CellTest}
-use Rattle.cells.specs.declared.CellTest.TheVariants.{WeightInRange, AmountRight, WeightAllowed}
+-- What is asked of every cell of a list whose rows have n, n − 1, … cells. Row and cell are counted from 0 by r and j, as a loop does.
+use Rattle.std.specs.Prelude.{◌≡◌, Bool, List, ℕ, ◌+◌, ◌<◌, ℤ, pos}
+use Rattle.method.specs.Triangle.{cell, cells_before}
+use Rattle.method.specs.Verdicts.{Verdict, each_cell}
 
-abbrev pub number_of : CellTest → ℕ
-number_of WeightInRange = 4
-number_of AmountRight = 5
-number_of WeightAllowed = 7
+-- a claim on the place in the list and on the years of every cell
+abbrev pub AtEachCell : ℕ → (ℕ → ℕ → ℕ → Type 0) → Type 0
+AtEachCell n claim = (r j : ℕ) → r + j < n → claim (cells_before n r + j) (r + 1) (j + 1)
 
--- what is asked of the number x of cell (i, k)
-abbrev pub passes : CellTest → ℕ → ℕ → ℕ → ℤ → Bool
-passes WeightInRange cut i k x = weight_in_range x
-passes AmountRight cut i k x = amount_right cut i k x
-passes WeightAllowed cut i k x = weight_allowed cut i k x
+-- whatever is answered of a cell is the test of it
+abbrev pub Answers : ℕ → (ℕ → ℕ → ℕ → Bool → Type 0) → (ℕ → ℕ → Bool) → Type 0
+Answers n answered test = AtEachCell n (λ place i k. (b : Bool) → answered place i k b → b ≡ test i k)
 
--- of number k of the row of accident year i
-unfoldable pub cell_of_row : CellTest → ℕ → ℕ → List ℤ → ℕ → Verdict
-cell_of_row test cut i row k = ask (passes test cut i k (entry row k)) (number_of test) (at i k)
-
--- of that row
-unfoldable pub row_of_list : CellTest → ℕ → ℕ → List ℤ → Verdict
-row_of_list test cut i row = first_to (length row) (cell_of_row test cut i row)
-
--- of a list whose rows have n, n − 1, … cells
-unfoldable pub whole_list : CellTest → ℕ → ℕ → List ℤ → Verdict
-whole_list test cut n xs = each_cell n (number_of test) (λ i k. passes test cut i k (cell (pos 0) n xs i k))
-
--- row r + 1 of a list whose rows have n, n − 1, … cells
-abbrev pub row_part : ℕ → ℕ → List ℤ → List ℤ
-row_part n r xs = take (n - r) (drop (cells_before n r) xs)
+-- a question with a test of the number of every cell
+unfoldable pub whole_list : ℕ → (ℕ → ℕ → ℤ → Bool) → ℕ → List ℤ → Verdict
+whole_list question passes n xs = each_cell n question (λ i k. passes i k (cell (pos 0) n xs i k))

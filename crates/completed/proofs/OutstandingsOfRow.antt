@@ -1,13 +1,14 @@
 -- The observed outstandings of a row as a loop makes them: each from the one before, within 64 bits where the row is within the limits.
-use mathlib.Core.Path.{◌≡◌, sym, ap, ◌∙◌, subst}
+use mathlib.Core.Path.{◌≡◌, refl, sym, ap, ◌∙◌, subst}
 use Prim.Native.Nat.{ℕ, suc, ◌+◌, ◌-◌, ◌≤◌}
 use native.Mathlib.Numerals.{add-one}
 use native.Mathlib.Omega.{arith}
 use lib.IntN.{ℤ, ◌+ℤ◌, ◌-ℤ◌}
+use Rattle.std.specs.Prelude.{Some}
 use mir.Syntax.{w64}
 use mir.Val.{SFits}
 use Rattle.exact_sums.specs.Exact.{exact_of}
-use Rattle.exact_sums.proofs.Fits.{exact_within}
+use Rattle.exact_sums.proofs.Fits.{exact_by}
 use Rattle.method.specs.Triangle.{Triangle, S, T, entry}
 use Rattle.method.specs.Outstandings.{R}
 use Rattle.outstandings.proofs.RowOutstandings.{less_payment_fits, next_fits}
@@ -16,7 +17,7 @@ use Rattle.completed.specs.Completed.{RowWithin, MovedTo, number_or_0, Outstandi
 -- ---- One movement
 
 number_of_exact : (z : ℤ) → SFits w64 z → number_or_0 (exact_of z) ≡ z
-number_of_exact z f = ap number_or_0 (sym (exact_within z f))
+number_of_exact z f = ap number_or_0 (sym (exact_by (Some z) z (f, refl)))
 
 pub moved_exactly : (outstanding payment adjustment : ℤ) {less r : ℤ} → less ≡ number_or_0 (exact_of (outstanding -ℤ payment))
     → r ≡ number_or_0 (exact_of (less +ℤ adjustment)) → MovedTo outstanding payment adjustment r

@@ -6,9 +6,9 @@ use native.Mathlib.Omega.{arith}
 use lib.IntN.{ℤ, pos}
 use lib.ListN.{get_or}
 use Rattle.method.specs.Triangle.{amounts_length, cells_before, cell}
-use Rattle.method.specs.AnswerPlaces.{unseen_before, cell_figure, year_figure}
+use Rattle.method.specs.AnswerPlaces.{unseen_before, cell_figure}
 use Rattle.method.proofs.Positions.{cells_before_is, cell_of_place, unseen_cells}
-use Rattle.completed.specs.Completed.{CellOfSquare}
+use Rattle.completed.specs.Square.{CellOfSquare}
 
 module _ {n i k : ℕ} (h : CellOfSquare n i k) where
   year_after : suc (i - 1) ≡ i
@@ -37,10 +37,3 @@ module _ {n i k : ℕ} (h : CellOfSquare n i k) where
         → get_or future (3 * ((i - 1) * (i - 1 - 1) / 2 + (i + k - n - 2)) + figure) (pos 0) ≡ cell_figure n future figure i (k - 1)
     unfolding cell_figure
     future_figure_at_place future = ap (λ place. get_or future place (pos 0)) future_place
-
--- the definition counts the years before year 0 as none
-pub first_figures_at_year_0 : (reserves : List ℤ) (figure i : ℕ) → i ≡ 0 → get_or reserves figure (pos 0) ≡ year_figure reserves figure i
-unfolding year_figure
-first_figures_at_year_0 reserves figure i e =
-    let same : figure ≡ 3 * (i - 1) + figure = omega arith in
-    ap (λ place. get_or reserves place (pos 0)) same

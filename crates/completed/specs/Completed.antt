@@ -1,25 +1,16 @@
 -- What stands in each cell of a completed triangle: nothing where it is missing, what was observed, in whole units,
 -- or what is projected, in millionths.
-use Rattle.std.specs.Prelude.{◌≡◌, cond, List, [], ℕ, suc, ◌+◌, ◌-◌, ◌≤◌, ◌<◌, leb, ℤ, pos, ◌+ℤ◌, ◌-ℤ◌}
+use Rattle.std.specs.Prelude.{◌≡◌, cond, List, [], ℕ, suc, ◌+◌, ◌-◌, ◌≤◌, ◌<◌, leb, ℤ, pos, ◌+ℤ◌, ◌-ℤ◌, Option}
 use Rattle.std.specs.Int.{w64}
+use Rattle.std.specs.Option.{unwrap_or}
 use Rattle.std.proofs.Common.{SFits}
-use Rattle.exact_sums.specs.declared.exact.Exact.{Exact}
-use Rattle.exact_sums.specs.declared.exact.Exact.TheVariants.{Of, TooLarge}
-use Rattle.method.specs.Limits.{most_accident_years}
 use Rattle.method.specs.Triangle.{Triangle, seen, cell, S, T}
 use Rattle.method.specs.Outstandings.{R}
 use Rattle.method.specs.AnswerPlaces.{cell_figure}
 use Rattle.outstandings.specs.Observed.{Movable}
+use Rattle.completed.specs.declared.outstanding.ObservedLists.{ObservedLists}
 use Rattle.completed.specs.declared.shown.Shown.{Shown}
 use Rattle.completed.specs.declared.shown.Shown.TheVariants.{Missing, Observed, Projected}
-
--- A cell of the square of n accident years and n development years.
-pub record CellOfSquare (n i k : ℕ) : Type 0 where
-  pub most : n ≤ most_accident_years
-  pub first : 1 ≤ i
-  pub last : i ≤ n
-  pub first_year : 1 ≤ k
-  pub last_year : k ≤ n
 
 -- What is shown in cell (i, k), of which the seen ones are known from those on whose years add up to `first`.
 abbrev pub shown_in : ℕ → ℕ → ℕ → ℕ → ℤ → ℤ → Shown
@@ -38,6 +29,9 @@ abbrev pub of_lists : ℕ → List ℤ → List ℤ → List ℤ → Triangle
 of_lists n payments adjustments openings =
     record { years = pos n; cut = pos 1; payments = payments; adjustments = adjustments; weights = []; openings = openings }
 
+abbrev pub outstandings_of : ℕ → ObservedLists → Triangle
+outstandings_of n observed = of_lists n observed.payments.now observed.adjustments.now observed.openings.now
+
 -- Up to year k all that moves in row i is within the limits of questions 5 and 6, as it is up to every seen cell of an accepted triangle,
 -- and up to the cell that question 6 refuses.
 pub record RowWithin (t : Triangle) (i k : ℕ) : Type 0 where
@@ -47,9 +41,8 @@ pub record RowWithin (t : Triangle) (i k : ℕ) : Type 0 where
 pub record MovedTo (outstanding payment adjustment r : ℤ) : Type 0 where
   pub is : SFits w64 (outstanding -ℤ payment) → SFits w64 (outstanding -ℤ payment +ℤ adjustment) → r ≡ outstanding -ℤ payment +ℤ adjustment
 
-abbrev pub number_or_0 : Exact → ℤ
-number_or_0 (Of number) = number
-number_or_0 TooLarge = pos 0
+abbrev pub number_or_0 : Option ℤ → ℤ
+number_or_0 exact = unwrap_or exact (pos 0)
 
 -- Where the row is within the limits, r is its outstanding at year k.
 pub record OutstandingAt (t : Triangle) (i k : ℕ) (r : ℤ) : Type 0 where

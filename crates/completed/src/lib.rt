@@ -4,3 +4,4 @@
 pub mod outstanding;
 pub mod places;
 pub mod shown;
+pub mod square;

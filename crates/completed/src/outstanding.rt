@@ -1,47 +1,43 @@
 // The observed outstanding of a cell.
 ghost use Rattle.std.specs.Prelude.{◌≡◌};
-ghost use Rattle.completed.specs.Completed.{CellOfSquare, of_lists, OutstandingAt, MovedTo, number_or_0};
+ghost use Rattle.completed.specs.Completed.{outstandings_of, OutstandingAt, MovedTo};
 
-use crate::places::cell_at;
-use exact_sums::exact::{Exact, difference, sum};
+use crate::square::Cell;
+use exact_sums::exact::{difference, sum};
 use outstandings::opening_of;
 
-// The outstanding of accident year i at the end of development year k, where the row is within the limits of questions 5 and 6.
-pub fn outstanding_at<'a>(
-    n: usize,
-    payments: &'a [i64],
-    adjustments: &'a [i64],
-    openings: &'a [i64],
-    i: usize,
-    k: usize,
-) -> i64
-    requires { CellOfSquare n i k }
-    ensures { OutstandingAt (of_lists n payments.now adjustments.now openings.now) i k result }
-{
-    let mut outstanding = opening_of(openings, i - 1);
-    let mut j = 0;
-    while j < k {
-        j += 1;
-        let payment = cell_at(n, payments, i, j);
-        let adjustment = cell_at(n, adjustments, i, j);
-        outstanding = moved(outstanding, payment, adjustment);
+// The lists that an observed outstanding is made of.
+#[derive(Clone, Copy)]
+pub struct ObservedLists<'a> {
+    pub payments: &'a [i64],
+    pub adjustments: &'a [i64],
+    pub openings: &'a [i64],
+}
+
+impl ObservedLists<'_> {
+    // The outstanding of a cell's accident year at the end of its development year, where the row is within the limits of questions 5 and 6.
+    pub fn outstanding_at(self, cell: Cell) -> i64
+        ensures { OutstandingAt (outstandings_of cell.n self.entry) cell.accident_year cell.development_year result }
+    {
+        let mut outstanding = opening_of(self.openings, cell.accident_year - 1);
+        for before in 0..cell.development_year {
+            let year = Cell {
+                n: cell.n,
+                accident_year: cell.accident_year,
+                development_year: before + 1,
+            };
+            let payment = year.number_in(self.payments);
+            let adjustment = year.number_in(self.adjustments);
+            outstanding = moved(outstanding, payment, adjustment);
+        }
+        outstanding
     }
-    outstanding
 }
 
 // outstanding − payment + adjustment, where neither step passes 64 bits; else some number.
 fn moved(outstanding: i64, payment: i64, adjustment: i64) -> i64
     ensures { MovedTo outstanding payment adjustment result }
 {
-    or_0(sum(or_0(difference(outstanding, payment)), adjustment))
-}
-
-// An exact number, or 0 where it has more than 64 bits.
-pub fn or_0(exact: Exact) -> i64
-    ensures { result ≡ number_or_0 exact }
-{
-    match exact {
-        Exact::Of(number) => number,
-        Exact::TooLarge => 0,
-    }
+    let less = difference(outstanding, payment).unwrap_or(0);
+    sum(less, adjustment).unwrap_or(0)
 }

@@ -3,39 +3,81 @@ ghost use Rattle.std.specs.Prelude.{◌≡◌, ◌+◌, ◌-◌, ◌≤◌, ◌<
 ghost use Rattle.method.specs.Limits.{most_accident_years};
 ghost use Rattle.method.specs.Triangle.{cell};
 ghost use Rattle.method.specs.AnswerPlaces.{cell_figure, year_figure};
-ghost use Rattle.completed.specs.Completed.{CellOfSquare};
+ghost use Rattle.completed.specs.Figures.{future_place, reserve_place};
 
+use crate::square::Cell;
 use lists::number_at;
 
-// Cell (i, k) of a list whose rows have n, n − 1, … cells; 0 where the list has ended.
-pub fn cell_at(n: usize, list: &[i64], i: usize, k: usize) -> i64
-    requires { CellOfSquare n i k }
-    ensures { result ≡ cell (pos 0) n list.now i k }
-{
-    // The row and the later ones end a list of its length.
-    let cells = n - i + 1;
-    let start = n * (n + 1) / 2 - cells * (cells + 1) / 2;
-    number_at(list, start + (k - 1))
+// The three figures of an unseen cell in the future list.
+#[derive(Clone, Copy)]
+pub enum FutureFigure {
+    Payment,
+    Adjustment,
+    Outstanding,
 }
 
-// One of the three figures of the unseen cell (i, k) in the future list; 0 where the list has ended.
-pub(crate) fn future_at(n: usize, future: &[i64], figure: usize, i: usize, k: usize) -> i64
-    requires { CellOfSquare n i k × (n + 1 < i + k) × (figure < 3) }
-    ensures { result ≡ cell_figure n future.now figure i (k - 1) }
-{
-    // Row i of the future list has i − 1 cells, and so have those before it together (i − 1)(i − 2) / 2.
-    let cells = i - 1;
-    let before = cells * (cells - 1) / 2;
-    number_at(future, 3 * (before + (i + k - n - 2)) + figure)
+impl FutureFigure {
+    // Its place among the three, from 0 on.
+    fn place(self) -> usize
+        ensures { (result ≡ future_place self) × (result < 3) }
+    {
+        match self {
+            FutureFigure::Payment => 0,
+            FutureFigure::Adjustment => 1,
+            FutureFigure::Outstanding => 2,
+        }
+    }
+}
+
+// The three figures of an accident year in the reserve list.
+#[derive(Clone, Copy)]
+pub enum ReserveFigure {
+    Paid,
+    Incurred,
+    Closing,
+}
+
+impl ReserveFigure {
+    // Its place among the three, from 0 on.
+    fn place(self) -> usize
+        ensures { (result ≡ reserve_place self) × (result < 3) }
+    {
+        match self {
+            ReserveFigure::Paid => 0,
+            ReserveFigure::Incurred => 1,
+            ReserveFigure::Closing => 2,
+        }
+    }
+}
+
+impl Cell {
+    // This cell in a list whose rows have n, n − 1, … cells; 0 where the list has ended.
+    pub fn number_in(self, list: &[i64]) -> i64
+        ensures { result ≡ cell (pos 0) self.n list.now self.accident_year self.development_year }
+    {
+        // The row and the later ones end a list of its length.
+        let cells = self.n - self.accident_year + 1;
+        let start = self.n * (self.n + 1) / 2 - cells * (cells + 1) / 2;
+        number_at(list, start + (self.development_year - 1))
+    }
+
+    // One of the three figures of this cell, which is unseen, in the future list; 0 where the list has ended.
+    pub(crate) fn figure_in(self, future: &[i64], figure: FutureFigure) -> i64
+        requires { self.n + 1 < self.accident_year + self.development_year }
+        ensures { result ≡ cell_figure self.n future.now (future_place figure) self.accident_year (self.development_year - 1) }
+    {
+        // Row i of the future list has i − 1 cells, and so have those before it together (i − 1)(i − 2) / 2.
+        let cells = self.accident_year - 1;
+        let before = cells * (cells - 1) / 2;
+        let at = before + (self.accident_year + self.development_year - self.n - 2);
+        number_at(future, 3 * at + figure.place())
+    }
 }
 
 // One of the three figures of accident year i in the reserve list; 0 where the list has ended.
-pub fn reserve_at(reserves: &[i64], figure: usize, i: usize) -> i64
-    requires { (i ≤ most_accident_years) × (figure < 3) }
-    ensures { result ≡ year_figure reserves.now figure i }
+pub fn reserve_at(reserves: &[i64], figure: ReserveFigure, i: usize) -> i64
+    requires { i ≤ most_accident_years }
+    ensures { result ≡ year_figure reserves.now (reserve_place figure) i }
 {
-    if i == 0 {
-        return number_at(reserves, figure);
-    }
-    number_at(reserves, 3 * (i - 1) + figure)
+    number_at(reserves, 3 * i.saturating_sub(1) + figure.place())
 }

@@ -1,10 +1,11 @@
 // What is shown in a cell.
-ghost use Rattle.std.specs.Prelude.{◌≡◌, ◌<◌, ◌≤◌};
-ghost use Rattle.method.specs.Limits.{most_accident_years};
-ghost use Rattle.completed.specs.Completed.{CellOfSquare, amount_in, OutstandingShown, of_lists};
+ghost use Rattle.std.specs.Prelude.{◌≡◌};
+ghost use Rattle.completed.specs.Figures.{future_place};
+ghost use Rattle.completed.specs.Completed.{amount_in, OutstandingShown, outstandings_of};
 
-use crate::outstanding::outstanding_at;
-use crate::places::{cell_at, future_at};
+use crate::outstanding::ObservedLists;
+use crate::places::FutureFigure;
+use crate::square::Cell;
 
 // What was observed is in whole units, what is projected in millionths.
 #[derive(Clone, Copy)]
@@ -14,49 +15,42 @@ pub enum Shown {
     Projected(i64),
 }
 
-// A payment or an adjustment, of its list and its place among a cell's three figures in the future list: 0 or 1.
-pub fn amount_shown<'a>(
-    n: usize,
-    cut: usize,
-    list: &'a [i64],
-    future: &'a [i64],
-    figure: usize,
-    i: usize,
-    k: usize,
-) -> Shown
-    requires { CellOfSquare n i k × (cut ≤ most_accident_years) × (figure < 3) }
-    ensures { result ≡ amount_in n cut list.now future.now figure i k }
-{
-    if n + 1 < i + k {
-        return Shown::Projected(future_at(n, future, figure, i, k));
-    }
-    if i + k <= cut {
-        return Shown::Missing;
-    }
-    Shown::Observed(cell_at(n, list, i, k))
+// What was lent and answered of a triangle, as a program shows it.
+#[derive(Clone, Copy)]
+pub struct CompletedLists<'a> {
+    pub cut: usize,
+    pub observed: ObservedLists<'a>,
+    pub future: &'a [i64],
 }
 
-// The outstanding at the end of the year. That of an opening's cell, whose years add up to the cut, is known.
-pub fn outstanding_shown<'a>(
-    n: usize,
-    cut: usize,
-    payments: &'a [i64],
-    adjustments: &'a [i64],
-    openings: &'a [i64],
-    future: &'a [i64],
-    i: usize,
-    k: usize,
-) -> Shown
-    requires { CellOfSquare n i k × (cut ≤ most_accident_years) }
-    ensures { OutstandingShown n cut
-        (of_lists n payments.now adjustments.now openings.now)
-        future.now i k result }
-{
-    if n + 1 < i + k {
-        return Shown::Projected(future_at(n, future, 2, i, k));
+impl<'a> CompletedLists<'a> {
+    // A payment or an adjustment, of its list and as a figure of the future list.
+    pub fn amount_shown(self, list: &'a [i64], figure: FutureFigure, cell: Cell) -> Shown
+        ensures { result ≡ amount_in cell.n self.entry.cut list.now self.entry.future.now (future_place figure) cell.accident_year cell.development_year }
+    {
+        let years = cell.accident_year + cell.development_year;
+        if cell.n + 1 < years {
+            return Shown::Projected(cell.figure_in(self.future, figure));
+        }
+        if years <= self.cut {
+            return Shown::Missing;
+        }
+        Shown::Observed(cell.number_in(list))
     }
-    if i + k < cut {
-        return Shown::Missing;
+
+    // The outstanding at the end of the year. That of an opening's cell, whose years add up to the cut, is known.
+    pub fn outstanding_shown(self, cell: Cell) -> Shown
+        ensures { OutstandingShown cell.n self.entry.cut
+            (outstandings_of cell.n self.entry.observed)
+            self.entry.future.now cell.accident_year cell.development_year result }
+    {
+        let years = cell.accident_year + cell.development_year;
+        if cell.n + 1 < years {
+            return Shown::Projected(cell.figure_in(self.future, FutureFigure::Outstanding));
+        }
+        if years < self.cut {
+            return Shown::Missing;
+        }
+        Shown::Observed(self.observed.outstanding_at(cell))
     }
-    Shown::Observed(outstanding_at(n, payments, adjustments, openings, i, k))
 }

@@ -5,9 +5,9 @@ use Prim.Native.Nat.{ℕ, ◌+◌, ◌-◌, ◌*◌, ◌/◌, ◌≤◌, max}
 use native.Mathlib.Nat.{one-mul, mul-le-mul_right, div-mul-le_self}
 use native.Mathlib.Decide.{dec_le}
 use native.Mathlib.Omega.{arith}
-use lib.IntN.{ℤ}
 use lib.ListN.{length, length-append}
 use Rattle.figures.specs.Bytes.{bytes}
+use Rattle.completed.specs.declared.shown.CompletedLists.{CompletedLists}
 use Rattle.completed.specs.declared.shown.Shown.{Shown}
 use Rattle.completed.specs.declared.shown.Shown.TheVariants.{Missing, Observed, Projected}
 use Rattle.printed.specs.Entries.{set_right, count_text, entries_after}
@@ -47,21 +47,21 @@ last_within : (n before column : ℕ) → last_in_part n before column ≤ n
 unfolding last_in_part
 last_within n before column = omega arith
 
-module _ (n cut : ℕ) (payments adjustments openings future : List ℤ) (table : Table) where
+module _ (n : ℕ) (lists : CompletedLists) (table : Table) where
   abbrev text_in : ℕ → ℕ → List ℕ
-  text_in i k = shown_entry (cell_shown n cut payments adjustments openings future table i k)
+  text_in i k = shown_entry (cell_shown n lists table i k)
 
   abbrev column : ℕ
-  column = completed_column n cut payments adjustments openings future table
+  column = completed_column n lists table
 
-  row_width_most : (i : ℕ) → row_width n cut payments adjustments openings future table i ≤ 36
+  row_width_most : (i : ℕ) → row_width n lists table i ≤ 36
   unfolding row_width
   row_width_most i =
-      widest_within (λ k. length (text_in i k)) 36 (λ k. shown_length (cell_shown n cut payments adjustments openings future table i k)) 0 1 n (omega arith)
+      widest_within (λ k. length (text_in i k)) 36 (λ k. shown_length (cell_shown n lists table i k)) 0 1 n (omega arith)
 
   pub completed_column_most : column ≤ 36
   unfolding completed_column
-  completed_column_most = widest_within (row_width n cut payments adjustments openings future table) 36 row_width_most 0 1 n (omega arith)
+  completed_column_most = widest_within (row_width n lists table) 36 row_width_most 0 1 n (omega arith)
 
   text_within_column : (i k : ℕ) → 1 ≤ i → i ≤ n → 1 ≤ k → k ≤ n → length (text_in i k) ≤ column
   unfolding row_width completed_column
@@ -69,11 +69,11 @@ module _ (n cut : ℕ) (payments adjustments openings future : List ℤ) (table 
       omega (
         arith,
         width_within_widest (λ k. length (text_in i k)) 0 1 n k k_first (omega arith),
-        width_within_widest (row_width n cut payments adjustments openings future table) 0 1 n i i_first (omega arith),
+        width_within_widest (row_width n lists table) 0 1 n i i_first (omega arith),
       )
 
   pub completed_row_fits : n ≤ 32 → (i before : ℕ) → 1 ≤ i → i ≤ n
-      → length (completed_row n cut payments adjustments openings future table i before (last_in_part n before column) column) ≤ 120
+      → length (completed_row n lists table i before (last_in_part n before column) column) ≤ 120
   unfolding completed_row
   completed_row_fits few i before first last =
       let years = last_in_part n before column - before in

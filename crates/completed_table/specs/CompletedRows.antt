@@ -1,12 +1,12 @@
 -- The completed triangle, line by line. docs/FORMAT.md has these tables.
-use Rattle.std.specs.Prelude.{◌≡◌, List, ◌∷◌, ◌++◌, ℕ, ◌+◌, ◌-◌, ◌/◌, ◌≤◌, min, max, ℤ, length}
+use Rattle.std.specs.Prelude.{◌≡◌, List, ◌∷◌, ◌++◌, ℕ, ◌+◌, ◌-◌, ◌/◌, ◌≤◌, min, max, length}
 use Prim.Native.Char.{code}
 use Rattle.figures.specs.Bytes.{bytes}
 use Rattle.written_figures.specs.Writing.{whole_text, amount_text}
-use Rattle.method.specs.Triangle.{Triangle}
 use Rattle.method.specs.Outstandings.{R}
 use Rattle.method.specs.AnswerPlaces.{cell_figure}
-use Rattle.completed.specs.Completed.{amount_in, shown_in, of_lists, RowWithin}
+use Rattle.completed.specs.Completed.{amount_in, shown_in, outstandings_of, RowWithin}
+use Rattle.completed.specs.declared.shown.CompletedLists.{CompletedLists}
 use Rattle.completed.specs.declared.shown.Shown.{Shown}
 use Rattle.completed.specs.declared.shown.Shown.TheVariants.{Missing, Observed, Projected}
 use Rattle.printed.specs.declared.line.Line.{Line}
@@ -35,15 +35,12 @@ last_in_part n before column = min n (before + max 1 (107 / (column + 2)))
 unfoldable pub years_heading : ℕ → ℕ → ℕ → List ℕ
 years_heading before last column = bytes "accident year" ++ entries_after count_text column before (last - before)
 
-module _ (n cut : ℕ) (payments adjustments openings future : List ℤ) where
-  abbrev pub lists : Triangle
-  lists = of_lists n payments adjustments openings
-
+module _ (n : ℕ) (lists : CompletedLists) where
   -- What stands in cell (i, k) of a table.
   abbrev pub cell_shown : Table → ℕ → ℕ → Shown
-  cell_shown Payments i k = amount_in n cut payments future 0 i k
-  cell_shown Adjustments i k = amount_in n cut adjustments future 1 i k
-  cell_shown Outstandings i k = shown_in n cut i k (R lists i k) (cell_figure n future 2 i (k - 1))
+  cell_shown Payments i k = amount_in n lists.cut lists.observed.payments.now lists.future.now 0 i k
+  cell_shown Adjustments i k = amount_in n lists.cut lists.observed.adjustments.now lists.future.now 1 i k
+  cell_shown Outstandings i k = shown_in n lists.cut i k (R (outstandings_of n lists.observed) i k) (cell_figure n lists.future.now 2 i (k - 1))
 
   -- The row of accident year i in a part.
   unfoldable pub completed_row : Table → ℕ → ℕ → ℕ → ℕ → List ℕ
@@ -60,7 +57,7 @@ module _ (n cut : ℕ) (payments adjustments openings future : List ℤ) where
   -- The seen cells of row i are within the limits of questions 5 and 6, as in every accepted triangle
   -- (`rows_within` in crates/completed/proofs/AcceptedRows.antt).
   abbrev pub RowSeenWithin : ℕ → Type 0
-  RowSeenWithin i = (k : ℕ) → i + k ≤ n + 1 → RowWithin lists i k
+  RowSeenWithin i = (k : ℕ) → i + k ≤ n + 1 → RowWithin (outstandings_of n lists.observed) i k
 
   -- Where they are, the cell r is what stands there, the line r is that row, and r is the row's width.
   pub record CellShown (table : Table) (i k : ℕ) (r : Shown) : Type 0 where

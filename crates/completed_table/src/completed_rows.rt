@@ -1,17 +1,19 @@
 // The completed triangle: observed and projected payments, adjustments and outstandings, in parts of at most 120 bytes a line.
-ghost use Rattle.std.specs.Prelude.{◌≡◌, ◌+◌, ◌/◌, ◌≤◌, ◌<◌, length};
+ghost use Rattle.std.specs.Prelude.{◌≡◌, ◌/◌, ◌+◌, ◌≤◌, ◌<◌, length};
 ghost use Rattle.method.specs.Limits.{most_accident_years};
-ghost use Rattle.completed.specs.Completed.{CellOfSquare};
 ghost use Rattle.printed.specs.Line.{LineIs, After};
 ghost use Rattle.printed.specs.Entries.{entry};
 ghost use Rattle.completed_table.specs.CompletedRows as meaning;
 ghost use Rattle.completed_table.specs.CompletedRows.{CellShown, RowShown, RowWidthIs, ColumnIs};
 
-use completed::shown::{Shown, amount_shown, outstanding_shown};
-use printed::counts::{larger, signed};
-use printed::entries::{amount_width, label, whole_width, with_entry, with_text_entry, with_whole};
-use printed::line::{Line, line_of};
-use written_figures::writing::amount;
+use completed::places::FutureFigure;
+use completed::shown::{CompletedLists, Shown};
+use completed::square::Cell;
+use printed::columns::widest;
+use printed::counts::signed;
+use printed::entries::label;
+use printed::line::Line;
+use written_figures::writing::{amount, whole};
 
 // The three tables of a completed triangle.
 #[derive(Clone, Copy)]
@@ -25,10 +27,10 @@ pub fn table_title(table: Table) -> Line
     ensures { LineIs (meaning.table_title table) result }
 {
     match table {
-        Table::Payments => line_of(b"Payments of the year, in units (* projected)"),
-        Table::Adjustments => line_of(b"Adjustments of the year, in units (* projected)"),
+        Table::Payments => Line::of(b"Payments of the year, in units (* projected)"),
+        Table::Adjustments => Line::of(b"Adjustments of the year, in units (* projected)"),
         Table::Outstandings => {
-            line_of(b"Outstandings at the end of the year, in units (* projected)")
+            Line::of(b"Outstandings at the end of the year, in units (* projected)")
         }
     }
 }
@@ -38,21 +40,14 @@ pub fn last_in_part(n: usize, before: usize, column: usize) -> usize
     requires { (before < n) × (n ≤ most_accident_years) }
     ensures { (before < result) × (result ≤ n) × (result ≡ meaning.last_in_part n before column) }
 {
-    let years = years_in_part(column);
-    if years == 0 {
-        return before + 1;
-    }
-    if n - before <= years {
-        return n;
-    }
-    before + years
+    n.min(before + years_in_part(column).max(1))
 }
 
 // The accident years take 13 bytes, and each column two spaces before it.
 fn years_in_part(column: usize) -> usize
     ensures { result ≡ 107 / (column + 2) }
 {
-    if column < 106 { 107 / (column + 2) } else { 0 }
+    107 / column.saturating_add(2)
 }
 
 // The heading of a part: its development years, after those that are before it and up to the last.
@@ -60,139 +55,108 @@ pub fn years_heading(before: usize, last: usize, column: usize) -> Line
     requires { last ≤ most_accident_years }
     ensures { LineIs (meaning.years_heading before last column) result }
 {
-    let mut line = line_of(b"accident year");
-    let mut k = before;
-    while k < last {
-        k += 1;
-        line = with_whole(line, signed(k), column);
+    let mut line = Line::of(b"accident year");
+    for k in before..last {
+        line = line.with_entry(whole(signed(k + 1)).text(), column);
     }
     line
 }
 
-// The row of accident year i in a part.
-pub fn completed_row<'a>(
-    table: Table,
-    n: usize,
-    cut: usize,
-    payments: &'a [i64],
-    adjustments: &'a [i64],
-    openings: &'a [i64],
-    future: &'a [i64],
-    i: usize,
-    before: usize,
-    last: usize,
-    column: usize,
-) -> Line
-    requires { (n ≤ most_accident_years) × (cut ≤ most_accident_years) × (1 ≤ i) × (i ≤ n) × (last ≤ n) }
-    ensures { RowShown n cut
-        payments.now adjustments.now openings.now future.now
-        table i before last column result }
-{
-    let mut line = label(i, 13);
-    let mut k = before;
-    while k < last {
-        k += 1;
-        let shown = shown_in(table, n, cut, payments, adjustments, openings, future, i, k);
-        line = with_shown(line, shown, column);
-    }
-    line
+// One of the tables, of the triangle of n accident years that these lists make.
+#[derive(Clone, Copy)]
+pub struct CompletedTable<'a> {
+    pub table: Table,
+    pub n: usize,
+    pub lists: CompletedLists<'a>,
+    ghost few_years: { n ≤ most_accident_years },
 }
 
+impl CompletedTable<'_> {
+    // The row of accident year i in a part.
+    pub fn row(self, i: usize, before: usize, last: usize, column: usize) -> Line
+        requires { (1 ≤ i) × (i ≤ self.n) × (last ≤ self.n) }
+        ensures { RowShown self.entry.n self.entry.lists self.entry.table i before last column result }
+    {
+        let mut line = label(i, 13);
+        for k in before..last {
+            let cell = Cell {
+                n: self.n,
+                accident_year: i,
+                development_year: k + 1,
+            };
+            line = with_shown(line, self.shown_in(cell), column);
+        }
+        line
+    }
+
+    // The width of the widest entry. No heading of a column is as wide as a projected figure.
+    pub fn column(self) -> usize
+        ensures { ColumnIs self.entry.n self.entry.lists self.entry.table result }
+    {
+        widest(0, 1..self.n + 1, |i| self.widest_in_row(i))
+    }
+
+    fn widest_in_row(self, i: usize) -> usize
+        requires { (1 ≤ i) × (i ≤ self.n) }
+        ensures { RowWidthIs self.entry.n self.entry.lists self.entry.table i result }
+    {
+        widest(
+            0,
+            1..self.n + 1,
+            |k|
+                requires { (1 ≤ i) × (i ≤ self.n) × (1 ≤ k) × (k ≤ self.n) }
+            {
+                let cell = Cell {
+                    n: self.n,
+                    accident_year: i,
+                    development_year: k,
+                };
+                shown_width(self.shown_in(cell))
+            },
+        )
+    }
+
+    // What stands in a cell.
+    fn shown_in(self, cell: Cell) -> Shown
+        ensures { CellShown cell.n self.entry.lists self.entry.table cell.accident_year cell.development_year result }
+    {
+        let lists = self.lists;
+        match self.table {
+            Table::Payments => lists.amount_shown(
+                lists.observed.payments,
+                FutureFigure::Payment,
+                cell,
+            ),
+            Table::Adjustments => lists.amount_shown(
+                lists.observed.adjustments,
+                FutureFigure::Adjustment,
+                cell,
+            ),
+            Table::Outstandings => lists.outstanding_shown(cell),
+        }
+    }
+}
+
+// A line with what is shown in a cell as an entry.
 fn with_shown(line: Line, shown: Shown, column: usize) -> Line
     ensures { After line (entry column (meaning.shown_entry shown)) result }
 {
     match shown {
-        Shown::Missing => with_text_entry(line, b"?", column),
-        Shown::Observed(units) => with_whole(line, units, column),
-        Shown::Projected(millionths) => with_entry(line, b"*", amount(millionths), column),
+        Shown::Missing => line.with_entry(b"?", column),
+        Shown::Observed(units) => line.with_entry(whole(units).text(), column),
+        Shown::Projected(millionths) => {
+            line.with_marked_entry(b"*", amount(millionths).text(), column)
+        }
     }
 }
 
-// The width of the widest entry of a table. No heading of a column is as wide as a projected figure.
-pub fn completed_column<'a>(
-    table: Table,
-    n: usize,
-    cut: usize,
-    payments: &'a [i64],
-    adjustments: &'a [i64],
-    openings: &'a [i64],
-    future: &'a [i64],
-) -> usize
-    requires { (n ≤ most_accident_years) × (cut ≤ most_accident_years) }
-    ensures { ColumnIs n cut
-        payments.now adjustments.now openings.now future.now
-        table result }
-{
-    let mut column = 0;
-    let mut i = 0;
-    while i < n {
-        i += 1;
-        column = larger(
-            column,
-            widest_in_row(table, n, cut, payments, adjustments, openings, future, i),
-        );
-    }
-    column
-}
-
-fn widest_in_row<'a>(
-    table: Table,
-    n: usize,
-    cut: usize,
-    payments: &'a [i64],
-    adjustments: &'a [i64],
-    openings: &'a [i64],
-    future: &'a [i64],
-    i: usize,
-) -> usize
-    requires { (n ≤ most_accident_years) × (cut ≤ most_accident_years) × (1 ≤ i) × (i ≤ n) }
-    ensures { RowWidthIs n cut
-        payments.now adjustments.now openings.now future.now
-        table i result }
-{
-    let mut column = 0;
-    let mut k = 0;
-    while k < n {
-        k += 1;
-        let shown = shown_in(table, n, cut, payments, adjustments, openings, future, i, k);
-        column = larger(column, shown_width(shown));
-    }
-    column
-}
-
-// The width of an entry, with its mark.
+// The width of that entry, with its mark.
 fn shown_width(shown: Shown) -> usize
     ensures { result ≡ length (meaning.shown_entry shown) }
 {
     match shown {
         Shown::Missing => 1,
-        Shown::Observed(units) => whole_width(units),
-        Shown::Projected(millionths) => amount_width(millionths) + 1,
-    }
-}
-
-// What stands in a table for accident year i and development year k.
-fn shown_in<'a>(
-    table: Table,
-    n: usize,
-    cut: usize,
-    payments: &'a [i64],
-    adjustments: &'a [i64],
-    openings: &'a [i64],
-    future: &'a [i64],
-    i: usize,
-    k: usize,
-) -> Shown
-    requires { CellOfSquare n i k × (cut ≤ most_accident_years) }
-    ensures { CellShown n cut
-        payments.now adjustments.now openings.now future.now
-        table i k result }
-{
-    match table {
-        Table::Payments => amount_shown(n, cut, payments, future, 0, i, k),
-        Table::Adjustments => amount_shown(n, cut, adjustments, future, 1, i, k),
-        Table::Outstandings => {
-            outstanding_shown(n, cut, payments, adjustments, openings, future, i, k)
-        }
+        Shown::Observed(units) => whole(units).width,
+        Shown::Projected(millionths) => amount(millionths).width + 1,
     }
 }

@@ -1,8 +1,7 @@
 -- A worked example: the first sum that 64 bits do not hold.
 -- The statement is proved in proofs/Examples.antt by computing it.
-use Rattle.std.specs.Prelude.{◌≡◌, pos, ◌+ℤ◌}
+use Rattle.std.specs.Prelude.{◌≡◌, pos, ◌+ℤ◌, None}
 use Rattle.exact_sums.specs.Exact.{greatest, exact_of}
-use Rattle.exact_sums.specs.declared.exact.Exact.TheVariants.{TooLarge}
 
 abbrev pub SumHolds : Type 0
-SumHolds = exact_of (greatest +ℤ pos 1) ≡ TooLarge
+SumHolds = exact_of (greatest +ℤ pos 1) ≡ None

@@ -1,4 +1,4 @@
 // Sums and differences that tell where they pass 64 bits.
-#![tactic(auto)]
+#![tactic(auto, using(crate::proofs::Fits::exact_by))]
 
 pub mod exact;

@@ -1,11 +1,11 @@
--- What comparisons of floats say of the numbers: of a float between two powers of 2, between the infinities, equal to its whole part, equal to a whole number.
+-- What comparisons of floats say of the numbers: of a float between two powers of 2, equal to its whole part, equal to a whole number.
 use Rattle.std.proofs.Common.{◌≡◌, ℕ, zero, suc, ◌+◌, ◌*◌, ◌/◌, ◌%◌, ◌^◌, ◌<◌, ◌≤◌, Bool, true, false, ◌&&◌, ◌||◌, eqb, ltb, leb, ◌⊎◌, ℤ, sym, refl, ap, ◌∙◌, inl, inr, ⊎_elim, true≢false, zero-lt-suc, mul_comm, add-mul, mul-pos, zero-mul, mul-one, mul_right_comm, arith, pow_pos, ltb-false, ltb-true, lt-ltb, eq-eqb, eqb-true, le-leb, leb-true}
 use mathlib.Core.Bool.{beq, and-true, false≢true}
 use native.Mathlib.Nat.{div-add-mod, mul-mod_left, eq_of_mul-eq-mul_right}
 use lib.Ieee.{Float, nan, inf, fin, up, down, lt, le, eq}
 use lib.Ieee.Fits.{down_pos}
 use lib.Ieee.Exact.{HasValue}
-use Rattle.floats.specs.Reading.{finite, within}
+use Rattle.floats.specs.Reading.{within}
 
 -- ---- Tests
 
@@ -55,15 +55,6 @@ by_size k nan h P p = absurd (false≢true h)
 by_size k (inf true) h P p = absurd (false≢true h)
 by_size k (inf false) h P p = absurd (false≢true h)
 by_size k (fin s m e) h P p = p s m e (leb-true (m * up e) (1 * 2 ^ k * down e) (sym (between_powers k s m e) ∙ h))
-
--- ---- Between the infinities
-
-pub between_infinities : (x : Float) → (lt (inf true) x && lt x (inf false)) ≡ finite x
-unfolding lt
-between_infinities nan = refl
-between_infinities (inf true) = refl
-between_infinities (inf false) = refl
-between_infinities (fin s m e) = refl
 
 -- ---- Equal to its whole part: there is no rest
 

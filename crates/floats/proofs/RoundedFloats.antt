@@ -1,6 +1,6 @@
 -- A small float with 3 × 2^51 added and taken off again is a whole number, and it is the float itself exactly where that is whole.
 -- The sum is from 2^52 to 2^53: there no float has a fraction, and every whole number is a float.
-use Rattle.std.proofs.Common.{◌≡◌, ℕ, zero, suc, ◌+◌, ◌-◌, ◌*◌, ◌/◌, ◌%◌, ◌^◌, ◌<◌, ◌≤◌, Bool, true, false, cond, T, ltb, ℤ, pos, negsuc, nat_abs, sym, refl, ap, ◌∙◌, subst, ap₂, true≢false, add-zero, mul-le-mul_right, zero-lt-suc, add-mul, mul-lt-mul_of_pos_right, pow-suc, div-add-mod', mul-one, arith, lit<, lit≤, pow_pos, ltb-false, ltb-true, le-ltb, lt-ltb, eq-eqb, eqb-true, le-leb}
+use Rattle.std.proofs.Common.{◌≡◌, ℕ, zero, suc, ◌+◌, ◌-◌, ◌*◌, ◌/◌, ◌%◌, ◌^◌, ◌<◌, ◌≤◌, Bool, true, false, cond, T, ltb, ℤ, pos, negsuc, nat_abs, sym, refl, ap, ◌∙◌, subst, ap₂, true≢false, add-zero, mul-le-mul_right, zero-lt-suc, add-mul, mul-lt-mul_of_pos_right, pow-suc, div-add-mod', mul-one, arith, lit<, lit≤, pow_pos, ltb-false, ltb-true, le-ltb, lt-ltb, eq-eqb, eqb-true, le-leb, Ok, Err}
 use native.Mathlib.Nat.{div-le_of_le-mul}
 use lib.IntN.{sub_ℕ}
 use lib.Ieee.{Float, nan, inf, fin, binary64, up, down, round, sum, add, neg, sub, eq, fits, le, of_int, to_signed, in_signed}
@@ -10,7 +10,7 @@ use lib.Ieee.Back.{round_whole, positive_back, negative_back}
 use lib.Ieee.Scale.{round_same}
 use lib.Ieee.Order.{round_mono}
 use lib.Ieee.Positive.{positive, own_value, positive_of_value, between, values_of_le}
-use Rattle.floats.specs.declared.Whole.TheVariants.{Number, NotWhole}
+use Rattle.floats.specs.declared.NotExact.TheVariants.{NotWhole}
 use Rattle.floats.specs.WholeNumbers.{signed, whole_number, float_of}
 use Rattle.floats.specs.Reading.{most_exact, told, small, exact_range}
 use Rattle.floats.proofs.ExactFloats.{cast_exact, negative, float_value}
@@ -246,10 +246,10 @@ module _ (x : Float) (h : small x ≡ true) where
   pub rounded_cast_allowed : T (in_signed binary64 63 (rounded x))
   rounded_cast_allowed = by_size 51 x h (λ x. T (in_signed binary64 63 (rounded x))) cast_allowed
 
-  pub told_where_rounding_keeps : eq (rounded x) x ≡ true → Number (to_signed 63 (rounded x)) ≡ told (whole_number x)
+  pub told_where_rounding_keeps : eq (rounded x) x ≡ true → Ok (to_signed 63 (rounded x)) ≡ told (whole_number x)
   told_where_rounding_keeps same =
-      ap Number (by_size 51 x h (λ x. eq (rounded x) x ≡ true → to_signed 63 (rounded x) ≡ to_signed 63 x) cast_is_cut same)
+      ap Ok (by_size 51 x h (λ x. eq (rounded x) x ≡ true → to_signed 63 (rounded x) ≡ to_signed 63 x) cast_is_cut same)
       ∙ told_by_cut x in_range (sym as_cut ∙ same)
 
-  pub told_where_rounding_changes : eq (rounded x) x ≡ false → NotWhole ≡ told (whole_number x)
+  pub told_where_rounding_changes : eq (rounded x) x ≡ false → Err NotWhole ≡ told (whole_number x)
   told_where_rounding_changes other = told_fraction x in_range (sym as_cut ∙ other)

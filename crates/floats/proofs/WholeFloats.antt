@@ -1,25 +1,26 @@
 -- What is told of a float. From -2^53 to 2^53 its cut to an integer is exact, and the float of the cut equals it where it is whole.
 -- Beyond that every finite float is whole, for it has no more than 53 digits.
-use Rattle.std.proofs.Common.{◌≡◌, ℕ, zero, suc, ◌+◌, ◌-◌, ◌*◌, ◌/◌, ◌%◌, ◌^◌, ◌<◌, ◌≤◌, min, Bool, true, false, cond, ◌&&◌, T, eqb, ltb, leb, ◌⊎◌, ℤ, pos, negsuc, neg_ℤ, nat_abs, sym, refl, ap, ◌∙◌, subst, ap₂, inl, inr, true≢false, div-one, arith, lit<, le→leb, ltb→lt, lt→ltb, le-leb, leb-false}
+use Rattle.std.proofs.Common.{◌≡◌, ℕ, zero, suc, ◌+◌, ◌-◌, ◌*◌, ◌/◌, ◌%◌, ◌^◌, ◌<◌, ◌≤◌, min, Bool, true, false, cond, ◌&&◌, T, eqb, ltb, leb, ◌⊎◌, ℤ, pos, negsuc, neg_ℤ, nat_abs, sym, refl, ap, ◌∙◌, subst, ap₂, inl, inr, true≢false, div-one, arith, lit<, le→leb, ltb→lt, lt→ltb, le-leb, leb-false, Ok, Err}
 use mathlib.Core.Bool.{false≢true}
 use native.Mathlib.Nat.{div-le_of_le-mul, mod-one}
 use lib.Ieee.{Float, nan, inf, fin, binary64, up, down, lt, le, eq, to_signed, fits}
 use lib.Ieee.Fits.{down_pos, and_l, and_r}
 use lib.Ieee.Exact.{HasValue}
 use borrow.Author.Tests.{lt-leb}
-use Rattle.floats.specs.declared.Whole.TheVariants.{Number, Larger, NotWhole}
+use Rattle.std.specs.Float.{float_is_finite}
+use Rattle.floats.specs.declared.NotExact.TheVariants.{Larger, NotWhole}
 use Rattle.floats.specs.WholeNumbers.{the, none, signed, whole_number, float_of}
-use Rattle.floats.specs.Reading.{most_exact, told, finite, exact_range}
+use Rattle.floats.specs.Reading.{most_exact, told, exact_range}
 use Rattle.floats.proofs.ExactFloats.{negative, float_value}
 use Rattle.floats.proofs.Comparisons.{between_powers, by_size, equal_to_whole_part}
 
 -- ---- Told of a whole number
 
-pub told_in_range : (z : ℤ) → nat_abs z ≤ most_exact → told (the z) ≡ Number z
-told_in_range z h = ap (λ (b : Bool). cond b (Number z) Larger) (le-leb (nat_abs z) most_exact h)
+pub told_in_range : (z : ℤ) → nat_abs z ≤ most_exact → told (the z) ≡ Ok z
+told_in_range z h = ap (λ (b : Bool). cond b (Ok z) (Err Larger)) (le-leb (nat_abs z) most_exact h)
 
-pub told_beyond_range : (z : ℤ) → most_exact < nat_abs z → told (the z) ≡ Larger
-told_beyond_range z h = ap (λ (b : Bool). cond b (Number z) Larger) (lt-leb (nat_abs z) most_exact h)
+pub told_beyond_range : (z : ℤ) → most_exact < nat_abs z → told (the z) ≡ Err Larger
+told_beyond_range z h = ap (λ (b : Bool). cond b (Ok z) (Err Larger)) (lt-leb (nat_abs z) most_exact h)
 
 size_of_signed : (s : Bool) (n : ℕ) → nat_abs (signed s n) ≡ n
 size_of_signed true zero = refl
@@ -98,11 +99,11 @@ module _ (x : Float) (h : exact_range x ≡ true) where
   pub whole_by_cut : whole_number x ≡ cond (eq (float_of (to_signed 63 x)) x) (the (to_signed 63 x)) none
   whole_by_cut = by_size 53 x h (λ x. whole_number x ≡ cond (eq (float_of (to_signed 63 x)) x) (the (to_signed 63 x)) none) whole_by_its_cut
 
-  pub told_by_cut : eq (float_of (to_signed 63 x)) x ≡ true → Number (to_signed 63 x) ≡ told (whole_number x)
+  pub told_by_cut : eq (float_of (to_signed 63 x)) x ≡ true → Ok (to_signed 63 x) ≡ told (whole_number x)
   told_by_cut same =
       sym (ap told (whole_by_cut ∙ ap (λ (b : Bool). cond b (the (to_signed 63 x)) none) same) ∙ told_in_range (to_signed 63 x) cut_exact)
 
-  pub told_fraction : eq (float_of (to_signed 63 x)) x ≡ false → NotWhole ≡ told (whole_number x)
+  pub told_fraction : eq (float_of (to_signed 63 x)) x ≡ false → Err NotWhole ≡ told (whole_number x)
   told_fraction other = sym (ap told (whole_by_cut ∙ ap (λ (b : Bool). cond b (the (to_signed 63 x)) none) other))
 
 -- ---- A float beyond that range, and one that is not finite
@@ -117,7 +118,7 @@ digits s (suc m) e f =
     (and_l (eqb (suc m % 2) 1 && ltb (suc m) most_exact) (leb (down e) (2 ^ 1074))
     (and_l (eqb (suc m % 2) 1 && ltb (suc m) most_exact && leb (down e) (2 ^ 1074)) (ltb (suc m * up e) (2 ^ 1024 * down e)) f)))
 
-large_is_whole : (s : Bool) (m : ℕ) (e : ℤ) → m < most_exact → most_exact * down e < m * up e → told (whole_number (fin s m e)) ≡ Larger
+large_is_whole : (s : Bool) (m : ℕ) (e : ℤ) → m < most_exact → most_exact * down e < m * up e → told (whole_number (fin s m e)) ≡ Err Larger
 unfolding whole_number
 large_is_whole s m (pos k) short large =
     let n = m * 2 ^ k in
@@ -125,14 +126,15 @@ large_is_whole s m (pos k) short large =
     ∙ told_beyond_range (signed s n) (omega (arith, size_of_signed s n))
 large_is_whole s m (negsuc k) short large = absurd (let wrong : ⊥ = omega (arith, down_pos (negsuc k)) in wrong)
 
-pub told_larger : (x : Float) → fits binary64 x ≡ true → finite x ≡ true → exact_range x ≡ false → Larger ≡ told (whole_number x)
+pub told_larger : (x : Float) → fits binary64 x ≡ true → float_is_finite x ≡ true → exact_range x ≡ false → Err Larger ≡ told (whole_number x)
+unfolding float_is_finite
 told_larger nan f h beyond = absurd (false≢true h)
 told_larger (inf s) f h beyond = absurd (false≢true h)
 told_larger (fin s m e) f h beyond =
     sym (large_is_whole s m e (digits s m e (subst T (sym f) tt)) (omega (arith, leb-false (m * up e) (1 * 2 ^ 53 * down e) (sym (between_powers 53 s m e) ∙ beyond))))
 
-pub told_not_finite : (x : Float) → finite x ≡ false → NotWhole ≡ told (whole_number x)
-unfolding whole_number
+pub told_not_finite : (x : Float) → float_is_finite x ≡ false → Err NotWhole ≡ told (whole_number x)
+unfolding whole_number float_is_finite
 told_not_finite nan h = refl
 told_not_finite (inf s) h = refl
 told_not_finite (fin s m e) h = absurd (true≢false h)

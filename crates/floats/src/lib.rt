@@ -1,90 +1,68 @@
-// 64-bit floats that are whole numbers, read without loss, and lists of floats cleared.
+// 64-bit floats that are whole numbers, read without loss.
 #![tactic(auto)]
 
-ghost use Rattle.std.specs.Prelude.{◌≡◌, true, length, replicate};
-ghost use Rattle.floats.specs.WholeNumbers.{whole_number, plus_zero};
-ghost use Rattle.floats.specs.Reading.{finite, small, exact_range, told};
+ghost use Rattle.std.specs.Prelude.{◌≡◌, ◌&&◌, true};
+ghost use Rattle.std.specs.Float.Ieee.{le, neg};
+ghost use Rattle.floats.specs.WholeNumbers.{whole_number};
+ghost use Rattle.floats.specs.Reading.{small, told};
 
-// What a float is as a whole number: one of at most 2^53 in size, a larger one, or none.
+// Why a float is no whole number of at most 2^53 in size: it is a larger one, or none.
 #[derive(Clone, Copy)]
-pub enum Whole {
-    Number(i64),
+pub enum NotExact {
     Larger,
     NotWhole,
 }
 
+// The whole number that a float is.
 // A small float is told by rounding it, which takes no branch on its sign.
-pub fn whole_number(x: f64) -> Whole
+pub fn whole_number(x: f64) -> Result<i64, NotExact>
     ensures { result ≡ told (whole_number x) }
 {
-    if is_small(x) {
+    if is_within(x, TWO_TO_51) {
         return small_whole_number(x);
     }
     any_whole_number(x)
 }
 
-// Whether x is from -2^51 to 2^51.
-fn is_small(x: f64) -> bool
-    ensures { result ≡ small x }
+const TWO_TO_51: f64 = 2251799813685248.0;
+
+const TWO_TO_53: f64 = 9007199254740992.0;
+
+// Whether x is from -size to size.
+fn is_within(x: f64, size: f64) -> bool
+    ensures { result ≡ (le (neg size) x && le x size) }
 {
-    (-2251799813685248.0 <= x) & (x <= 2251799813685248.0)
+    (-size <= x) & (x <= size)
 }
 
 // With 3 × 2^51 added the sum is at least 2^52, where floats have no fraction: it is rounded to a whole number.
 // Taking 3 × 2^51 off again is exact, and never gives minus zero, which `as` does not take.
-fn small_whole_number(x: f64) -> Whole
+fn small_whole_number(x: f64) -> Result<i64, NotExact>
     requires { small x ≡ true }
     ensures { result ≡ told (whole_number x) }
 {
     let added = 6755399441055744.0;
     let rounded = (x + added) - added;
     if !(rounded == x) {
-        return Whole::NotWhole;
+        return Err(NotExact::NotWhole);
     }
-    Whole::Number(rounded as i64)
+    Ok(rounded as i64)
 }
 
 // Of any size: tested for finite, in range and equal to its cut to an integer.
-fn any_whole_number(x: f64) -> Whole
+fn any_whole_number(x: f64) -> Result<i64, NotExact>
     ensures { result ≡ told (whole_number x) }
 {
-    if !is_finite(x) {
-        return Whole::NotWhole;
+    if !x.is_finite() {
+        return Err(NotExact::NotWhole);
     }
     // Beyond 2^53 every finite float is whole.
-    if !in_exact_range(x) {
-        return Whole::Larger;
+    if !is_within(x, TWO_TO_53) {
+        return Err(NotExact::Larger);
     }
     let cut = std::num::truncating_f64_to_i64(x);
     if !(cut as f64 == x) {
-        return Whole::NotWhole;
+        return Err(NotExact::NotWhole);
     }
-    Whole::Number(cut)
-}
-
-// No constant can be an infinity, so it is made here.
-fn is_finite(x: f64) -> bool
-    ensures { result ≡ finite x }
-{
-    let infinity = 1.0 / 0.0;
-    (-infinity < x) & (x < infinity)
-}
-
-// Whether x is from -2^53 to 2^53.
-fn in_exact_range(x: f64) -> bool
-    ensures { result ≡ exact_range x }
-{
-    (-9007199254740992.0 <= x) & (x <= 9007199254740992.0)
-}
-
-// Fills a list of any length with plus zero.
-pub fn clear(list: &mut [f64])
-    ensures { list.new ≡ replicate (length list.old) plus_zero }
-{
-    let count = list.len();
-    let mut j = 0;
-    while j < count {
-        list[j] = 0.0;
-        j += 1;
-    }
+    Ok(cut)
 }

@@ -1,9 +1,8 @@
 -- The first fault of the headings of a text, and of rows that stand under none. docs/FORMAT.md has the table of them.
-use Rattle.std.specs.Prelude.{Bool, true, false, not, ◌&&◌, ◌||◌, cond, List, [], ◌∷◌, ℕ, suc, eqb}
+use Rattle.std.specs.Prelude.{Bool, true, false, not, ◌&&◌, ◌||◌, cond, List, [], ◌∷◌, ℕ, suc, eqb, ℤ, Result, Ok, Err}
 use Rattle.figures.specs.Bytes.{bytes}
 use Rattle.figures.specs.Reading.{figure_of}
-use Rattle.figures.specs.declared.reading.Figure.{Figure}
-use Rattle.figures.specs.declared.reading.Figure as figures
+use Rattle.figures.specs.declared.reading.NoFigure.{NoFigure}
 use Rattle.line_parts.specs.Cells.{is_empty}
 use Rattle.line_parts.specs.Words.{word, is_word}
 use Rattle.line_kinds.specs.Kinds.{kind_of, is_heading, has_rows}
@@ -12,22 +11,21 @@ use Rattle.line_kinds.specs.declared.kinds.LineKind.{LineKind}
 use Rattle.line_kinds.specs.declared.kinds.LineKind.TheVariants.{Blank, Separators, Payments, Adjustments, Weights, Openings, Cut, Cell, Row, Unknown}
 use Rattle.heading_faults.specs.declared.HeadingFault.{HeadingFault}
 use Rattle.heading_faults.specs.declared.HeadingFault.TheVariants.{HeadingBeforeRow, FiguresInRow, KnownHeading, HeadingOnce, CumulatedOrIncremental, NothingAfterHeading, NumberAfterCut, YearsAfterCell}
-use Rattle.heading_faults.specs.declared.Checked.{Checked}
-use Rattle.heading_faults.specs.declared.Checked.TheVariants.{Right, Wrong}
-use Rattle.heading_faults.specs.declared.FirstFault.{FirstFault}
-use Rattle.heading_faults.specs.declared.FirstFault.TheVariants.{Nothing, At}
+use Rattle.heading_faults.specs.declared.MisplacedLine.{MisplacedLine}
+
+-- What a check answers: nothing, or what was expected.
+abbrev pub Checked : Type 0
+Checked = Result (Unit {0}) HeadingFault
 
 abbrev pub check : Bool → HeadingFault → Checked
-check true fault = Right
-check false fault = Wrong fault
+check true fault = Ok tt
+check false fault = Err fault
 
 -- ---- The words after a heading
 
-abbrev pub is_whole : Figure → Bool
-is_whole figures.TheVariants.Blank = false
-is_whole (figures.TheVariants.Whole number) = true
-is_whole figures.TheVariants.TooLarge = false
-is_whole figures.TheVariants.NotWhole = false
+abbrev pub is_whole : Result ℤ NoFigure → Bool
+is_whole (Ok number) = true
+is_whole (Err fault) = false
 
 module _ (separator : ℕ) (line : List ℕ) where
   unfoldable pub is_number : ℕ → Bool
@@ -69,10 +67,10 @@ module _ (separator : ℕ) (line : List ℕ) where
 -- A line of this number and kind, among all lines and under the last heading before it. A heading stands at most once.
 module _ (separator : ℕ) (all : List (List ℕ)) (number : ℕ) (under : LineKind) (line : List ℕ) where
   abbrev pub heading_check : LineKind → Checked
-  heading_check kind = cond (eqb (line_number separator kind all) number) (words_check separator line kind) (Wrong HeadingOnce)
+  heading_check kind = cond (eqb (line_number separator kind all) number) (words_check separator line kind) (Err HeadingOnce)
 
   abbrev pub line_check : LineKind → Checked
-  line_check Blank = Right
+  line_check Blank = Ok tt
   line_check Separators = check (not (has_rows under)) FiguresInRow
   line_check Payments = heading_check Payments
   line_check Adjustments = heading_check Adjustments
@@ -81,19 +79,23 @@ module _ (separator : ℕ) (all : List (List ℕ)) (number : ℕ) (under : LineK
   line_check Cut = heading_check Cut
   line_check Cell = heading_check Cell
   line_check Row = check (has_rows under) HeadingBeforeRow
-  line_check Unknown = Wrong KnownHeading
+  line_check Unknown = Err KnownHeading
 
 -- the last heading after a line of this kind
 abbrev pub under_after : LineKind → LineKind → LineKind
 under_after under kind = cond (is_heading kind) kind under
 
+-- The line and what was expected there, or else the first fault of later lines.
+abbrev pub FirstFault : Type 0
+FirstFault = Result (Unit {0}) MisplacedLine
+
 abbrev pub or_later : Checked → ℕ → FirstFault → FirstFault
-or_later Right number later = later
-or_later (Wrong fault) number later = At number fault
+or_later (Ok nothing) number later = later
+or_later (Err fault) number later = Err record { line = number; expected = fault }
 
 -- of the lines after so many, under the last heading before them
 unfoldable pub fault_after : ℕ → List (List ℕ) → ℕ → LineKind → List (List ℕ) → FirstFault
-fault_after separator all number under [] = Nothing
+fault_after separator all number under [] = Ok tt
 fault_after separator all number under (line ∷ lines) =
     or_later (line_check separator all (suc number) under line (kind_of separator line)) (suc number)
     (fault_after separator all (suc number) (under_after under (kind_of separator line)) lines)

@@ -5,14 +5,15 @@ ghost use Rattle.std.specs.Prelude.{◌≡◌};
 ghost use Rattle.text.specs.Lines.{lines};
 ghost use Rattle.heading_faults.specs.Faults as meaning;
 
-use figures::reading::{Figure, figure_of};
+use figures::reading::figure_of;
 use headings::places::{find_heading, says_cumulated};
-use line_kinds::kinds::{LineKind, has_rows, is_heading, kind_of};
-use line_parts::words::{is_word, word};
-use text::lines::{first_line, first_line_length};
+use line_kinds::kinds::{LineKind, kind_of};
+use line_parts::cells::Text;
+use line_parts::words::is_word;
+use text::lines::Lines;
 
 // What was expected at a line.
-#[derive(Clone, Copy)]
+#[derive(Clone, Copy, PartialEq, Eq)]
 pub enum HeadingFault {
     HeadingBeforeRow,
     FiguresInRow,
@@ -24,165 +25,133 @@ pub enum HeadingFault {
     YearsAfterCell,
 }
 
-// The line, counted from 1, and what was expected there.
-#[derive(Clone, Copy)]
-pub enum FirstFault {
-    Nothing,
-    At(usize, HeadingFault),
-}
-
-#[derive(Clone, Copy)]
-pub enum Checked {
-    Right,
-    Wrong(HeadingFault),
+// A line, counted from 1, and what was expected there.
+#[derive(Clone, Copy, PartialEq, Eq)]
+pub struct MisplacedLine {
+    pub line: usize,
+    pub expected: HeadingFault,
 }
 
 // The first fault of all lines.
-pub fn first_fault(text: &[u8], separator: u8) -> FirstFault
-    ensures { result ≡ meaning.heading_fault separator (lines text.now) }
+pub fn first_fault(text: Text<'_>) -> Result<(), MisplacedLine>
+    ensures { result ≡ meaning.heading_fault text.entry.separator (lines text.entry.bytes.now) }
 {
     let mut under = LineKind::Blank;
-    let mut number = 0;
-    let mut start = 0;
-    while start < text.len() {
-        let line = first_line(&text[start..]);
-        let kind = kind_of(line, separator);
-        number += 1;
-        let checked = check_line(text, line, separator, number, kind, under);
-        let Checked::Right = checked else {
-            return fault_at(number, checked);
-        };
-        under = under_after(under, kind);
-        start += first_line_length(&text[start..]);
+    for (before, bytes) in (Lines { rest: text.bytes }).enumerate() {
+        let line = Text { bytes, ..text };
+        let kind = kind_of(line);
+        let number = before + 1;
+        at_line(number, check_line(text, line, number, kind, under))?;
+        if kind.is_heading() {
+            under = kind;
+        }
     }
-    FirstFault::Nothing
+    Ok(())
 }
 
-fn fault_at(number: usize, checked: Checked) -> FirstFault
-    ensures { result ≡ meaning.or_later checked number FirstFault.Nothing }
+fn at_line(line: usize, checked: Result<(), HeadingFault>) -> Result<(), MisplacedLine>
+    ensures { result ≡ meaning.or_later checked line (Ok tt) }
 {
-    match checked {
-        Checked::Right => FirstFault::Nothing,
-        Checked::Wrong(fault) => FirstFault::At(number, fault),
-    }
-}
-
-// The last heading after a line of this kind.
-fn under_after(under: LineKind, kind: LineKind) -> LineKind
-    ensures { result ≡ meaning.under_after under kind }
-{
-    if is_heading(kind) { kind } else { under }
+    checked.map_err(|expected| MisplacedLine { line, expected })
 }
 
 // A line of this number and kind, under the last heading before it.
-fn check_line<'a>(
-    text: &'a [u8],
-    line: &'a [u8],
-    separator: u8,
+fn check_line(
+    text: Text<'_>,
+    line: Text<'_>,
     number: usize,
     kind: LineKind,
     under: LineKind,
-) -> Checked
-    ensures { result ≡ meaning.line_check separator (lines text.now) number under line.now kind }
+) -> Result<(), HeadingFault>
+    requires { line.separator ≡ text.separator }
+    ensures { result ≡ meaning.line_check text.entry.separator (lines text.entry.bytes.now) number under line.entry.bytes.now kind }
 {
     match kind {
-        LineKind::Blank => Checked::Right,
-        LineKind::Separators => check(!has_rows(under), HeadingFault::FiguresInRow),
-        LineKind::Row => check(has_rows(under), HeadingFault::HeadingBeforeRow),
-        LineKind::Unknown => Checked::Wrong(HeadingFault::KnownHeading),
+        LineKind::Blank => Ok(()),
+        LineKind::Separators => check(!under.has_rows(), HeadingFault::FiguresInRow),
+        LineKind::Row => check(under.has_rows(), HeadingFault::HeadingBeforeRow),
+        LineKind::Unknown => Err(HeadingFault::KnownHeading),
         _ => {
-            let found = find_heading(text, separator, kind);
-            if found.line == number {
-                check_words(line, separator, kind)
+            let first = find_heading(text, kind).map_or(0, |found| found.line);
+            if first == number {
+                check_words(line, kind)
             } else {
-                Checked::Wrong(HeadingFault::HeadingOnce)
+                Err(HeadingFault::HeadingOnce)
             }
         }
     }
 }
 
-fn check(right: bool, fault: HeadingFault) -> Checked
+fn check(right: bool, fault: HeadingFault) -> Result<(), HeadingFault>
     ensures { result ≡ meaning.check right fault }
 {
-    if right {
-        Checked::Right
-    } else {
-        Checked::Wrong(fault)
-    }
+    if right { Ok(()) } else { Err(fault) }
 }
 
 // The words after a heading of this kind.
-fn check_words(line: &[u8], separator: u8, kind: LineKind) -> Checked
-    ensures { result ≡ meaning.words_check separator line.now kind }
+fn check_words(line: Text<'_>, kind: LineKind) -> Result<(), HeadingFault>
+    ensures { result ≡ meaning.words_check line.entry.separator line.entry.bytes.now kind }
 {
     match kind {
-        LineKind::Payments => amount_words(line, separator),
-        LineKind::Adjustments => amount_words(line, separator),
-        LineKind::Cut => cut_words(line, separator),
-        LineKind::Cell => cell_words(line, separator),
-        _ => no_words(line, separator),
+        LineKind::Payments | LineKind::Adjustments => amount_words(line),
+        LineKind::Cut => cut_words(line),
+        LineKind::Cell => cell_words(line),
+        _ => no_words(line),
     }
 }
 
-fn amount_words(line: &[u8], separator: u8) -> Checked
-    ensures { result ≡ meaning.amount_words separator line.now }
+#[tactic(auto, unfolding(crate::specs::Faults::amount_words))]
+fn amount_words(line: Text<'_>) -> Result<(), HeadingFault>
+    ensures { result ≡ meaning.amount_words line.entry.separator line.entry.bytes.now }
 {
-    check(
-        says_how(line, separator),
-        HeadingFault::CumulatedOrIncremental,
-    )
+    check(says_how(line), HeadingFault::CumulatedOrIncremental)
 }
 
-fn cut_words(line: &[u8], separator: u8) -> Checked
-    ensures { result ≡ meaning.cut_words separator line.now }
+#[tactic(auto, unfolding(crate::specs::Faults::cut_words))]
+fn cut_words(line: Text<'_>) -> Result<(), HeadingFault>
+    ensures { result ≡ meaning.cut_words line.entry.separator line.entry.bytes.now }
 {
     check(
-        is_number(line, separator, 1) & is_no_word(line, separator, 2),
+        is_number(line, 1) & is_no_word(line, 2),
         HeadingFault::NumberAfterCut,
     )
 }
 
-fn cell_words(line: &[u8], separator: u8) -> Checked
-    ensures { result ≡ meaning.cell_words separator line.now }
+#[tactic(auto, unfolding(crate::specs::Faults::cell_words))]
+fn cell_words(line: Text<'_>) -> Result<(), HeadingFault>
+    ensures { result ≡ meaning.cell_words line.entry.separator line.entry.bytes.now }
 {
     check(
-        is_number(line, separator, 1)
-            & is_number(line, separator, 2)
-            & is_no_word(line, separator, 3),
+        is_number(line, 1) & is_number(line, 2) & is_no_word(line, 3),
         HeadingFault::YearsAfterCell,
     )
 }
 
-fn no_words(line: &[u8], separator: u8) -> Checked
-    ensures { result ≡ meaning.no_words separator line.now }
+#[tactic(auto, unfolding(crate::specs::Faults::no_words))]
+fn no_words(line: Text<'_>) -> Result<(), HeadingFault>
+    ensures { result ≡ meaning.no_words line.entry.separator line.entry.bytes.now }
 {
-    check(
-        is_no_word(line, separator, 1),
-        HeadingFault::NothingAfterHeading,
-    )
+    check(is_no_word(line, 1), HeadingFault::NothingAfterHeading)
 }
 
-fn says_how(line: &[u8], separator: u8) -> bool
-    ensures { result ≡ meaning.says_how separator line.now }
+#[tactic(auto, unfolding(crate::specs::Faults::says_how))]
+fn says_how(line: Text<'_>) -> bool
+    ensures { result ≡ meaning.says_how line.entry.separator line.entry.bytes.now }
 {
-    let how = word(line, separator, 1);
-    (says_cumulated(how) | is_word(how, b"incremental")) & is_no_word(line, separator, 2)
+    let how = line.word(1);
+    (says_cumulated(how) | is_word(how, b"incremental")) & is_no_word(line, 2)
 }
 
-fn is_no_word(line: &[u8], separator: u8, number: usize) -> bool
-    ensures { result ≡ meaning.is_no_word separator line.now number }
+#[tactic(auto, unfolding(crate::specs::Faults::is_no_word))]
+fn is_no_word(line: Text<'_>, number: usize) -> bool
+    ensures { result ≡ meaning.is_no_word line.entry.separator line.entry.bytes.now number }
 {
-    word(line, separator, number).len() == 0
+    line.word(number).is_empty()
 }
 
-fn is_number(line: &[u8], separator: u8, number: usize) -> bool
-    ensures { result ≡ meaning.is_number separator line.now number }
+#[tactic(auto, unfolding(crate::specs::Faults::is_number))]
+fn is_number(line: Text<'_>, number: usize) -> bool
+    ensures { result ≡ meaning.is_number line.entry.separator line.entry.bytes.now number }
 {
-    let figure = figure_of(word(line, separator, number));
-    match figure {
-        Figure::Blank => false,
-        Figure::Whole(_) => true,
-        Figure::TooLarge => false,
-        Figure::NotWhole => false,
-    }
+    figure_of(line.word(number)).is_ok()
 }

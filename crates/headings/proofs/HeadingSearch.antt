@@ -1,70 +1,136 @@
 -- The search for a heading, line by line.
-use mathlib.Core.Path.{◌≡◌, refl, ap, ◌∙◌}
-use mathlib.Core.Bool.{true, false}
+use mathlib.Core.Path.{◌≡◌, refl, sym, ap, subst, ◌∙◌}
+use mathlib.Core.Bool.{Bool, true, false, cond}
 use mathlib.Core.List.{List, [], ◌∷◌}
-use Prim.Native.Nat.{ℕ, ◌+◌, ◌-◌, ◌≤◌}
+use Prim.Native.Nat.{ℕ, zero, suc, ◌+◌, ◌-◌, ◌≤◌, ◌<◌}
 use native.Mathlib.Numerals.{add-one}
 use native.Mathlib.Omega.{arith}
-use lib.ListN.{length, take, drop}
-use Rattle.text.specs.Lines.{lines, first_of, others_of}
+use lib.ListN.{length, drop_of_length-le}
+use Rattle.std.specs.Prelude.{Some, None}
+use Rattle.std.proofs.Common.{Bor}
+use Rattle.text.specs.Search.{before, from}
+use Rattle.text.proofs.LinesOfText.{no_lines, lines_within}
+use Rattle.text.proofs.Parts.{part_after_lines, one_line_more}
+use Rattle.line_parts.specs.Words.{word}
+use Rattle.text.specs.Lines.{lines, first_of, others_of, after_lines, IsPart, AfterLine}
 use Rattle.line_kinds.specs.Kinds.{kind_of, same_kind}
 use Rattle.headings.specs.Places.{from_heading, number_after_lines, line_number, heading_line, HeadingFound}
-use Rattle.line_kinds.specs.declared.kinds.LineKind.{LineKind}
 use Rattle.headings.specs.declared.places.Heading.{Heading}
-use Rattle.text.proofs.LinesOfText.{no_lines, LineAt, first_of_rest}
+use Rattle.line_kinds.specs.declared.kinds.LineKind.{LineKind}
 
--- The text from a place on, which so many lines come before, has the heading of the whole text.
-module _ (text : List ℕ) (separator : ℕ) (heading : LineKind) where
-  pub record SearchedTo (line start : ℕ) : Type 0 where
-    pub within : start ≤ length text
-    pub line_small : line ≤ start
-    pub same_lines : from_heading separator heading (lines (drop start text)) ≡ from_heading separator heading (lines text)
-    pub same_number : number_after_lines separator heading line (lines (drop start text)) ≡ line_number separator heading (lines text)
+-- What is left of all lines, after so many, has the heading of all.
+module _ (separator : ℕ) (heading : LineKind) (all : List (List ℕ)) where
+  pub record SearchedTo (line : ℕ) (rest : List (List ℕ)) : Type 0 where
+    pub counted : line + length rest ≡ length all
+    pub same_lines : from_heading separator heading rest ≡ from_heading separator heading all
+    pub same_number : number_after_lines separator heading line rest ≡ line_number separator heading all
 
-  pub search_begins : SearchedTo 0 0
-  search_begins = record { within = omega arith; line_small = omega arith; same_lines = refl; same_number = refl }
+  module _ (line : ℕ) (rest : List (List ℕ)) (so_far : SearchedTo line rest) where
+    no_heading : rest ≡ [] → (0 ≡ line_number separator heading all) × ([] ≡ from_heading separator heading all)
+    unfolding from_heading number_after_lines
+    no_heading ended = (rw ended at so_far.same_number, rw ended at so_far.same_lines)
 
-  module _ (number start : ℕ) (so_far : SearchedTo number start) where
-    module _ (line : List ℕ) (next : ℕ) (read : LineAt text start line next) where
-      pub search_goes_on : same_kind (kind_of separator line) heading ≡ false → SearchedTo (number + 1) next
+    module _ (content : List ℕ) (others : List (List ℕ)) (steps : rest ≡ content ∷ others) where
+      line_counted : line + 1 + length others ≡ length all
+      line_counted = omega (arith, so_far.counted, ap length steps)
+
+      pub search_goes_on : same_kind (kind_of separator content) heading ≡ false → SearchedTo (line + 1) others
       unfolding from_heading number_after_lines
       search_goes_on other = record {
-        within = read.within;
-        line_small = omega (arith, so_far.line_small, read.further);
-        same_lines = rw (read.parts, other) at so_far.same_lines;
-        same_number = rw add-one (rw (read.parts, other) at so_far.same_number);
+        counted = line_counted;
+        same_lines = rw (steps, other) at so_far.same_lines;
+        same_number = rw add-one (rw (steps, other) at so_far.same_number);
       }
 
-      pub heading_found : same_kind (kind_of separator line) heading ≡ true
-          → HeadingFound text separator heading record { line = number + 1; start = start; rows = next }
+      heading_here : same_kind (kind_of separator content) heading ≡ true
+          → (line + 1 ≡ line_number separator heading all) × (content ∷ others ≡ from_heading separator heading all)
       unfolding from_heading number_after_lines
-      heading_found same =
-          let found : line ∷ lines (drop next text) ≡ from_heading separator heading (lines text) = rw (read.parts, same) at so_far.same_lines in
-          record {
-            line_is = rw add-one (rw (read.parts, same) at so_far.same_number);
-            from_there = read.parts ∙ found;
-            rows_there = ap others_of found;
-            start_within = omega (arith, so_far.within);
-            rows_within = read.within;
-            line_small = omega (arith, so_far.line_small, read.further);
-          }
+      heading_here same = (rw add-one (rw (steps, same) at so_far.same_number), rw (steps, same) at so_far.same_lines)
 
-    pub heading_not_found : length text ≤ start → HeadingFound text separator heading record { line = 0; start = start; rows = start }
-    unfolding from_heading number_after_lines
-    heading_not_found ends =
-        let nothing = no_lines text start ends in
-        let found : [] ≡ from_heading separator heading (lines text) = rw nothing at so_far.same_lines in
-        record {
-          line_is = rw nothing at so_far.same_number;
-          from_there = nothing ∙ found;
-          rows_there = nothing ∙ ap others_of found;
-          start_within = so_far.within;
-          rows_within = so_far.within;
-          line_small = omega arith;
-        }
+-- What is left of a text after so many of its lines.
+module _ (text : List ℕ) where
+  pub record LeftAfter (line : ℕ) (rest : List ℕ) : Type 0 where
+    pub rest_is : rest ≡ after_lines line text
+    pub line_within : line + length rest ≤ length text
 
--- The first line from the place on that is found is the heading's.
-pub found_line : (text : List ℕ) (separator : ℕ) (heading : LineKind) (r : Heading) → HeadingFound text separator heading r
-    → (line : List ℕ) → line ≡ first_of (lines (take (length text - r.start) (drop r.start text)))
-    → line ≡ heading_line separator heading (lines text)
-found_line text separator heading r found line is = first_of_rest text r.start line is ∙ ap first_of found.from_there
+  pub left_at_first : LeftAfter 0 text
+  unfolding after_lines
+  left_at_first = record { rest_is = refl; line_within = omega arith }
+
+  pub left_after_next : (line : ℕ) (rest : List ℕ) → LeftAfter line rest → (next : List ℕ) → 0 < length rest → AfterLine rest next
+      → LeftAfter (line + 1) next
+  left_after_next line rest left next more after = record {
+    rest_is = one_line_more line text rest next left.rest_is after;
+    line_within = omega (arith, left.line_within, after.shorter more);
+  }
+
+-- ---- What is found
+
+module _ (separator : ℕ) (heading : LineKind) (text : List ℕ) (line : ℕ) (rest : List ℕ)
+    (so_far : SearchedTo separator heading (lines text) line (lines rest)) where
+  pub found_nowhere : lines rest ≡ [] → HeadingFound text separator heading None
+  found_nowhere ended =
+      let none = no_heading separator heading (lines text) line (lines rest) so_far ended in
+      record {
+        line_is = none.0;
+        lines_are = none.1;
+        separator_is = refl;
+        from_there = no_lines [] 0 (omega arith) ∙ none.1;
+        from_part = sym (drop_of_length-le text (omega arith));
+        rows_are = refl;
+        rows_part = sym (drop_of_length-le text (omega arith));
+        line_within = omega arith;
+      }
+
+  pub found_there : LeftAfter text line rest → (content next : Bor (List ℕ)) → 0 < length rest → AfterLine rest next.now
+      → lines rest ≡ content.now ∷ lines next.now → same_kind (kind_of separator content.now) heading ≡ true
+      → HeadingFound text separator heading
+      (Some record { line = line + 1; content = record { bytes = content; separator = separator }; rows = record { rest = next } })
+  found_there left content next more after steps same =
+      let here = heading_here separator heading (lines text) line (lines rest) so_far content.now (lines next.now) steps same in
+      let left_next = left_after_next text line rest left next.now more after in
+      let before : line + 1 - 1 ≡ line = omega arith in
+      record {
+        line_is = here.0;
+        lines_are = here.1;
+        separator_is = refl;
+        from_there = ap (λ n. lines (after_lines n text)) before ∙ ap lines (sym left.rest_is) ∙ steps ∙ here.1;
+        from_part = part_after_lines (line + 1 - 1) text;
+        rows_are = left_next.rest_is;
+        rows_part = subst (IsPart text) (sym left_next.rest_is) (part_after_lines (line + 1) text);
+        line_within = left_next.line_within;
+      }
+
+-- the lines before the heading, its own and those after it are lines of the text
+pub heading_within : (separator : ℕ) (heading : LineKind) (before : ℕ) (all : List (List ℕ))
+    → number_after_lines separator heading before all + length (others_of (from_heading separator heading all)) ≤ before + length all
+unfolding from_heading number_after_lines
+heading_within separator heading before [] = omega arith
+heading_within separator heading before (line ∷ others) =
+    go (same_kind (kind_of separator line) heading) (heading_within separator heading (suc before) others)
+  where
+    go : (same : Bool)
+        → number_after_lines separator heading (suc before) others + length (others_of (from_heading separator heading others)) ≤ suc before + length others
+        → cond same (suc before) (number_after_lines separator heading (suc before) others)
+        + length (others_of (cond same (line ∷ others) (from_heading separator heading others)))
+        ≤ before + suc (length others)
+    go true h = omega arith
+    go false h = omega (arith, h)
+
+pub word_of_nothing : (separator number : ℕ) → [] ≡ word separator number []
+unfolding word from before
+word_of_nothing separator zero = refl
+word_of_nothing separator (suc number) = word_of_nothing separator number
+
+module _ {text : List ℕ} {separator : ℕ} {heading : LineKind} where
+  pub heading_word : {found : Heading} → HeadingFound text separator heading (Some found) → (number : ℕ)
+      → word found.content.separator number found.content.bytes.now ≡ word separator number (heading_line separator heading (lines text))
+  heading_word {found = found} at number =
+      ap (λ s. word s number found.content.bytes.now) at.separator_is ∙ ap (λ all. word separator number (first_of all)) at.lines_are
+
+  pub no_heading_word : HeadingFound text separator heading None → (number : ℕ) → [] ≡ word separator number (heading_line separator heading (lines text))
+  no_heading_word at number = word_of_nothing separator number ∙ ap (λ all. word separator number (first_of all)) at.lines_are
+
+  pub rows_counted : {found : Heading} → HeadingFound text separator heading (Some found) → found.line + length (lines found.rows.rest.now) ≤ length text
+  rows_counted at =
+      omega (arith, at.line_is, ap (λ all. length (others_of all)) at.lines_are, heading_within separator heading 0 (lines text), lines_within text)

@@ -1,10 +1,9 @@
 -- Where a heading stands among the lines of a text, and what it says.
-use Rattle.std.specs.Prelude.{◌≡◌, Bool, ◌&&◌, cond, List, [], ◌∷◌, ℕ, suc, ◌-◌, ◌≤◌, leb, ℤ, length, drop}
+use Rattle.std.specs.Prelude.{◌≡◌, Bool, ◌&&◌, cond, List, [], ◌∷◌, ℕ, suc, ◌+◌, ◌-◌, ◌≤◌, leb, eqb, length, ℤ, Option, None, Some, Result, Ok, Err}
 use Rattle.figures.specs.Bytes.{bytes}
 use Rattle.figures.specs.Reading.{figure_of}
-use Rattle.figures.specs.declared.reading.Figure.{Figure}
-use Rattle.figures.specs.declared.reading.Figure.TheVariants.{Blank, Whole, TooLarge, NotWhole}
-use Rattle.text.specs.Lines.{lines, first_of, others_of}
+use Rattle.figures.specs.declared.reading.NoFigure.{NoFigure}
+use Rattle.text.specs.Lines.{lines, first_of, others_of, after_lines, IsPart}
 use Rattle.line_parts.specs.Words.{word}
 use Rattle.line_kinds.specs.Kinds.{is_either, kind_of, is_heading, same_kind}
 use Rattle.line_kinds.specs.declared.kinds.LineKind as kinds
@@ -33,14 +32,44 @@ heading_line separator heading lines = first_of (from_heading separator heading 
 abbrev pub lines_under : ℕ → LineKind → List (List ℕ) → List (List ℕ)
 lines_under separator heading lines = others_of (from_heading separator heading lines)
 
--- What is found of a heading in a text: its line's number, where it starts, and where the next line does.
-pub record HeadingFound (text : List ℕ) (separator : ℕ) (heading : LineKind) (r : Heading) : Type 0 where
-  pub line_is : r.line ≡ line_number separator heading (lines text)
-  pub from_there : lines (drop r.start text) ≡ from_heading separator heading (lines text)
-  pub rows_there : lines (drop r.rows text) ≡ lines_under separator heading (lines text)
-  pub start_within : r.start ≤ length text
-  pub rows_within : r.rows ≤ length text
-  pub line_small : r.line ≤ r.rows
+-- The line of a heading that is found or not, the lines from there on, and its separator.
+abbrev pub line_of : Option Heading → ℕ
+line_of None = 0
+line_of (Some heading) = heading.line
+
+abbrev pub lines_from : Option Heading → List (List ℕ)
+lines_from None = []
+lines_from (Some heading) = heading.content.bytes.now ∷ lines heading.rows.rest.now
+
+abbrev pub separator_or : ℕ → Option Heading → ℕ
+separator_or separator None = separator
+separator_or separator (Some heading) = heading.content.separator
+
+-- The text from the line of a heading that is found on, and what is left of it after that line, counted in lines; empty where it is not found.
+abbrev pub text_from : List ℕ → Option Heading → List ℕ
+text_from text None = []
+text_from text (Some heading) = after_lines (heading.line - 1) text
+
+abbrev pub text_under : List ℕ → Option Heading → List ℕ
+text_under text None = []
+text_under text (Some heading) = after_lines heading.line text
+
+-- What is left of a text after a heading that is found or not.
+abbrev pub rows_of : Option Heading → List ℕ
+rows_of None = []
+rows_of (Some heading) = heading.rows.rest.now
+
+-- What is found of a heading in a text. The text from its line on, and what is left after it, are parts of the text;
+-- the line's number is no more than the bytes before what is left.
+pub record HeadingFound (text : List ℕ) (separator : ℕ) (heading : LineKind) (r : Option Heading) : Type 0 where
+  pub line_is : line_of r ≡ line_number separator heading (lines text)
+  pub lines_are : lines_from r ≡ from_heading separator heading (lines text)
+  pub separator_is : separator_or separator r ≡ separator
+  pub from_there : lines (text_from text r) ≡ from_heading separator heading (lines text)
+  pub from_part : IsPart text (text_from text r)
+  pub rows_are : rows_of r ≡ text_under text r
+  pub rows_part : IsPart text (rows_of r)
+  pub line_within : line_of r + length (rows_of r) ≤ length text
 
 -- ---- What the lines under a heading and its words say
 
@@ -62,11 +91,9 @@ unfoldable pub rows_in : ℕ → List (List ℕ) → ℕ
 rows_in separator [] = 0
 rows_in separator (line ∷ lines) = counted (kind_of separator line) (rows_in separator lines)
 
-abbrev pub whole_or : ℤ → Figure → ℤ
-whole_or other Blank = other
-whole_or other (Whole number) = number
-whole_or other TooLarge = other
-whole_or other NotWhole = other
+abbrev pub whole_or : ℤ → Result ℤ NoFigure → ℤ
+whole_or other (Ok number) = number
+whole_or other (Err fault) = other
 
 -- The number that the heading's word of this number is, or another where there is no such heading.
 unfoldable pub number_after : ℕ → LineKind → ℕ → ℤ → List (List ℕ) → ℤ
@@ -80,6 +107,10 @@ unfoldable pub is_cumulated : ℕ → LineKind → List (List ℕ) → Bool
 is_cumulated separator heading lines = says_cumulated (word separator 1 (heading_line separator heading lines))
 
 -- ---- Where a row stands
+
+-- a number that is 0 where there is none
+abbrev pub line_there : ℕ → Option ℕ
+line_there line = cond (eqb line 0) None (Some line)
 
 -- the number of the row sought, after a line that is a row or not
 abbrev pub left_after : Bool → ℕ → ℕ

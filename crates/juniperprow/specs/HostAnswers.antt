@@ -17,6 +17,30 @@ use Rattle.workbook_reserve.specs.Workbooks.{workbook_answer_of}
 use Rattle.juniperprow.specs.declared.VerdictAnswer.{VerdictAnswer}
 use Rattle.juniperprow.specs.declared.CellAnswer.{CellAnswer}
 
+-- ---- What a host lends, one list after another
+
+abbrev pub triangle_lent : ℤ → ℤ → List ℤ → List ℤ → List ℤ → List ℤ → Triangle
+triangle_lent years cut payments adjustments weights openings = record {
+  years = years;
+  cut = cut;
+  payments = payments;
+  adjustments = adjustments;
+  weights = weights;
+  openings = openings;
+}
+
+abbrev pub workbook_lent : ℤ → ℤ → List ℕ → List Float → List ℕ → List Float → List ℤ → List ℤ → Workbook
+workbook_lent years cut payment_kinds payments adjustment_kinds adjustments weights openings = record {
+  years = years;
+  cut = cut;
+  payments = record { kinds = payment_kinds; numbers = payments };
+  adjustments = record { kinds = adjustment_kinds; numbers = adjustments };
+  weights = weights;
+  openings = openings;
+}
+
+-- ---- What it is answered
+
 unfoldable pub verdict_answer : Verdict → VerdictAnswer
 verdict_answer v = record {
   number = pos (number v);

@@ -1,9 +1,9 @@
 // The call of a host with a workbook's cells.
 ghost use Rattle.std.specs.Prelude.{length};
-ghost use Rattle.workbook_reserve.specs.Workbooks.{workbook_of};
-ghost use Rattle.juniperprow.specs.HostAnswers.{WorkbookAnswered};
+ghost use Rattle.juniperprow.specs.HostAnswers.{workbook_lent, WorkbookAnswered};
 
-use crate::{VerdictAnswer, verdict_answer};
+use crate::VerdictAnswer;
+use workbook_cells::lent_workbook::{Workbook, WorkbookCells};
 use workbook_reserve::reserve::workbook_reserve;
 
 // Fills the future list and the reserves as pairs of floats, from a workbook's cells, and answers the verdict. A refused call leaves zeros throughout both.
@@ -20,21 +20,23 @@ pub fn juniperprow_workbook_reserve<'a>(
     reserve_pairs: &mut [f64],
 ) -> VerdictAnswer
     ensures { WorkbookAnswered
-        (workbook_of years cut payment_kinds.now payments.now adjustment_kinds.now adjustments.now
+        (workbook_lent years cut payment_kinds.now payments.now adjustment_kinds.now adjustments.now
         weights.now openings.now)
         (length future.old) (length reserve_pairs.old) result future.new reserve_pairs.new }
 {
-    let verdict = workbook_reserve(
+    let workbook = Workbook {
         years,
         cut,
-        payment_kinds,
-        payments,
-        adjustment_kinds,
-        adjustments,
+        payments: WorkbookCells {
+            kinds: payment_kinds,
+            numbers: payments,
+        },
+        adjustments: WorkbookCells {
+            kinds: adjustment_kinds,
+            numbers: adjustments,
+        },
         weights,
         openings,
-        future,
-        reserve_pairs,
-    );
-    verdict_answer(verdict)
+    };
+    VerdictAnswer::from(workbook_reserve(workbook, future, reserve_pairs))
 }

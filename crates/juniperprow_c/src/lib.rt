@@ -2,9 +2,7 @@
 #![tactic(auto)]
 
 ghost use Rattle.std.specs.Prelude.{length};
-ghost use Rattle.questions.specs.Inputs.{triangle_of};
-ghost use Rattle.workbook_reserve.specs.Workbooks.{workbook_of};
-ghost use Rattle.juniperprow.specs.HostAnswers.{ReserveAnswered, WorkbookAnswered, CellAnswered, RowAnswered};
+ghost use Rattle.juniperprow.specs.HostAnswers.{triangle_lent, workbook_lent, ReserveAnswered, WorkbookAnswered, CellAnswered, RowAnswered};
 
 use juniperprow::{CellAnswer, VerdictAnswer};
 
@@ -21,7 +19,7 @@ pub extern "C" fn juniperprow_reserve<'a>(
     reserves: &mut [i64],
 ) -> VerdictAnswer
     ensures { ReserveAnswered
-        (triangle_of years cut payments.now adjustments.now weights.now openings.now)
+        (triangle_lent years cut payments.now adjustments.now weights.now openings.now)
         (length future.old) (length reserves.old) result future.new reserves.new }
 {
     juniperprow::juniperprow_reserve(
@@ -51,7 +49,7 @@ pub extern "C" fn juniperprow_workbook_reserve<'a>(
     reserve_pairs: &mut [f64],
 ) -> VerdictAnswer
     ensures { WorkbookAnswered
-        (workbook_of years cut payment_kinds.now payments.now adjustment_kinds.now adjustments.now
+        (workbook_lent years cut payment_kinds.now payments.now adjustment_kinds.now adjustments.now
         weights.now openings.now)
         (length future.old) (length reserve_pairs.old) result future.new reserve_pairs.new }
 {
@@ -82,7 +80,7 @@ pub extern "C" fn juniperprow_single_cell<'a>(
     development_year: i64,
 ) -> CellAnswer
     ensures { CellAnswered
-        (triangle_of years cut payments.now adjustments.now weights.now openings.now)
+        (triangle_lent years cut payments.now adjustments.now weights.now openings.now)
         accident_year development_year result }
 {
     juniperprow::juniperprow_single_cell(

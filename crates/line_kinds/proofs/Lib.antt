@@ -1,2 +1,3 @@
 -- The laws of a line's kind.
 pub mod KindsOfLines
+pub mod SameKinds

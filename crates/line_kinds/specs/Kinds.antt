@@ -2,10 +2,9 @@
 use Rattle.std.specs.Prelude.{Bool, true, false, ◌||◌, cond, List, [], ◌∷◌, ℕ, eqb}
 use Rattle.figures.specs.Bytes.{bytes}
 use Rattle.text.specs.Bytes.{double_quote, is_letter}
-use Rattle.text.specs.Search.{from}
+use Rattle.text.specs.Search.{is_no_space, from}
 use Rattle.line_parts.specs.Cells.{from_content}
 use Rattle.line_parts.specs.Words.{word, is_word}
-use Rattle.text.specs.declared.search.Sought.TheVariants.{NotSpace}
 use Rattle.line_kinds.specs.declared.kinds.LineKind.{LineKind}
 use Rattle.line_kinds.specs.declared.kinds.LineKind.TheVariants.{Blank, Separators, Payments, Adjustments, Weights, Openings, Cut, Cell, Row, Unknown}
 
@@ -39,7 +38,7 @@ blank_or_separators (byte ∷ rest) = Separators
 
 -- a line, and the same from its first byte on that is neither a space nor a separator
 abbrev pub kind_from : ℕ → List ℕ → List ℕ → LineKind
-kind_from separator line [] = blank_or_separators (from NotSpace line)
+kind_from separator line [] = blank_or_separators (from is_no_space line)
 kind_from separator line (byte ∷ rest) = cond (begins_heading (byte ∷ rest)) (heading_of (word separator 0 line)) Row
 
 -- A line of spaces is blank. One of separators and spaces has no figure. Every other is a heading or a row, as it begins.
@@ -71,18 +70,18 @@ has_rows Cell = false
 has_rows Row = false
 has_rows Unknown = false
 
--- Each kind has a number of its own, by which two are compared.
+-- Each kind has a number of its own, its place among them, by which two are compared.
 abbrev pub number_of : LineKind → ℕ
 number_of Blank = 0
-number_of Payments = 1
-number_of Adjustments = 2
-number_of Weights = 3
-number_of Openings = 4
-number_of Cut = 5
-number_of Cell = 6
-number_of Row = 7
-number_of Unknown = 8
-number_of Separators = 9
+number_of Separators = 1
+number_of Payments = 2
+number_of Adjustments = 3
+number_of Weights = 4
+number_of Openings = 5
+number_of Cut = 6
+number_of Cell = 7
+number_of Row = 8
+number_of Unknown = 9
 
 abbrev pub same_kind : LineKind → LineKind → Bool
 same_kind a b = eqb (number_of a) (number_of b)

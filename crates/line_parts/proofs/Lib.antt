@@ -1,5 +1,5 @@
--- The laws of a line: separators, cells, words and fields.
+-- The laws of a line: separators, the spaces around a text, fields and words.
 pub mod Separators
 pub mod Trimmed
-pub mod WordsOfLine
 pub mod Fields
+pub mod WordsOfLine

@@ -1,16 +1,15 @@
 -- Questions 1 to 3 of n, Y and the lengths of the lists that a call lends.
-use Rattle.std.specs.Prelude.{Bool, true, ◌&&◌, ℕ, eqb, ℤ, nat_abs}
+use Rattle.std.specs.Prelude.{Bool, true, ◌&&◌, Option, Some, None, ℕ, eqb, ℤ, nat_abs}
 use Rattle.method.specs.Triangle.{amounts_length, weights_length, openings_length, future_length, reserves_length}
 use Rattle.method.specs.Verdicts.{Verdict, ◌then◌}
 use Rattle.method.specs.Questions.{question_1, question_2, question_3}
-use Rattle.list_lengths.specs.declared.AnswerLists.{AnswerLists}
-use Rattle.list_lengths.specs.declared.AnswerLists.TheVariants.{NotGiven, FutureAndReserves}
+use Rattle.lent.specs.declared.AnswerLengths.{AnswerLengths}
 use Rattle.list_lengths.specs.declared.ListLengths.{ListLengths}
 
--- Whether the answer lists have their lengths, for n years
-abbrev pub answers_right : ℕ → AnswerLists → Bool
-answers_right n NotGiven = true
-answers_right n (FutureAndReserves future reserves) = eqb future (future_length n) && eqb reserves (reserves_length n)
+-- Whether the answer lists have their lengths, for n years, or none are lent
+abbrev pub answers_right : ℕ → Option AnswerLengths → Bool
+answers_right n None = true
+answers_right n (Some lent) = eqb lent.future (future_length n) && eqb lent.reserves (reserves_length n)
 
 -- The answer to question 3, for n years and the cut Y. Of a triangle's lists it is document 01's. Law: `lists_right_is` in crates/questions/proofs/Counted.antt.
 unfoldable pub list_lengths_right : ℕ → ℕ → ListLengths → Bool

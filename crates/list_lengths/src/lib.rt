@@ -8,39 +8,28 @@ ghost use Rattle.method.specs.Questions.{question_1, question_2, question_3};
 ghost use Rattle.verdicts.specs.Verdicts.{verdict_of};
 ghost use Rattle.list_lengths.specs.Lengths.{answers_right, list_lengths_right, questions_1_to_3};
 
+use lent::AnswerLengths;
 use verdicts::limits::from_to;
-use verdicts::verdict::{Verdict, asked};
+use verdicts::verdict::{Question, Verdict, asked};
 use verdicts::years::question_1;
 
-// The answer lists that a call lends, by their lengths.
-#[derive(Clone, Copy)]
-pub enum AnswerLists {
-    NotGiven,
-    FutureAndReserves(usize, usize),
-}
-
 // The lengths of all lists that a call lends.
-#[derive(Clone, Copy)]
+#[derive(Clone, Copy, PartialEq, Eq)]
 pub struct ListLengths {
     pub payments: usize,
     pub adjustments: usize,
     pub weights: usize,
     pub openings: usize,
-    pub answers: AnswerLists,
+    // none where no answer lists are lent
+    pub answers: Option<AnswerLengths>,
 }
 
 // The first refusal of questions 1 to 3, if there is one. No length is formed of an n or a cut that is out of range.
 pub fn questions_1_to_3(years: i64, cut: i64, lengths: ListLengths) -> Verdict
     ensures { verdict_of result ≡ questions_1_to_3 years cut lengths }
 {
-    let first = question_1(years);
-    let Verdict::Accepted = first else {
-        return first;
-    };
-    let second = question_2(years, cut);
-    let Verdict::Accepted = second else {
-        return second;
-    };
+    question_1(years)?;
+    question_2(years, cut)?;
     question_3(years as usize, cut as usize, lengths)
 }
 
@@ -49,31 +38,28 @@ fn question_2(years: i64, cut: i64) -> Verdict
     requires { question_1 years ≡ accepted }
     ensures { verdict_of result ≡ question_2 years cut }
 {
-    asked(from_to(1, years - 1, cut), 2)
+    asked(from_to(1, years - 1, cut), Question::Cut)
 }
 
 // Whether every list has its length.
+#[tactic(auto, using(verdicts::proofs::Counts::few_cells), unfolding(method::specs::Questions::question_3, crate::specs::Lengths::list_lengths_right))]
 fn question_3(n: usize, cut: usize, lengths: ListLengths) -> Verdict
     requires { (1 ≤ n) × (n ≤ most_accident_years) × (1 ≤ cut) }
     ensures { verdict_of result ≡ question_3 (list_lengths_right n cut lengths) }
 {
     let amounts = n * (n + 1) / 2;
-    let answers = lengths.answers;
     let right = (lengths.payments == amounts)
         & (lengths.adjustments == amounts)
         & (lengths.weights == n * (n - 1) / 2)
         & (lengths.openings == cut - 1)
-        & answers_right(n, answers);
-    asked(right, 3)
+        & answers_right(n, lengths.answers);
+    asked(right, Question::Lengths)
 }
 
-fn answers_right(n: usize, answers: AnswerLists) -> bool
+// Whether the answer lists that are lent have their lengths.
+fn answers_right(n: usize, answers: Option<AnswerLengths>) -> bool
     requires { (1 ≤ n) × (n ≤ most_accident_years) }
     ensures { result ≡ answers_right n answers }
 {
-    match answers {
-        AnswerLists::NotGiven => true,
-        AnswerLists::FutureAndReserves(future, reserves) => (future == 3 * (n * (n - 1) / 2))
-            & (reserves == 3 * n),
-    }
+    answers.is_none_or(|lent| (lent.future == 3 * (n * (n - 1) / 2)) & (lent.reserves == 3 * n))
 }

@@ -1,7 +1,7 @@
 -- Parts of a list: what is left of it from a place on, a front that is taken twice, and a part that was lent and is back.
 use mathlib.Core.Path.{◌≡◌, refl, ap, ◌∙◌}
 use mathlib.Core.List.{List, [], ◌∷◌, ◌++◌}
-use Prim.Native.Nat.{ℕ, zero, suc, ◌+◌, ◌-◌, ◌≤◌}
+use Prim.Native.Nat.{ℕ, zero, suc, ◌-◌, ◌≤◌}
 use native.Mathlib.Omega.{arith}
 use borrow.Rule.Slice.PartMut.{put_mid, same_len_mid, take_put}
 use lib.ListN.{length, take, drop, length-drop}
@@ -15,14 +15,6 @@ module _ {A : Type 0} (list : List A) (start : ℕ) where
 
   pub rest_length : length (take (length list - start) (drop start list)) ≡ length list - start
   rest_length = ap length whole_rest ∙ length-drop start list
-
-  pub rest_within : {size : ℕ} → start ≤ length list → size ≤ length (take (length list - start) (drop start list)) → start + size ≤ length list
-  rest_within h within = omega (arith, rest_length)
-
--- ---- The first places, as a call is lent them
-
-pub first_part_length : {A : Type 0} (list : List A) (count : ℕ) → count ≤ length list → length (take (count - 0) list) ≡ count
-first_part_length list count h = length-take-le (count - 0) list (omega arith) ∙ omega arith
 
 -- ---- As much as has room, before something else
 

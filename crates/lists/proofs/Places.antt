@@ -1,11 +1,11 @@
 -- Lists and arrays that are filled from the left, place by place: what holds of the places that are filled, and that the others are kept.
 use mathlib.Core.Path.{◌≡◌, refl, sym, subst, ◌∙◌}
-use mathlib.Core.List.{List, [], ◌∷◌, map}
-use Prim.Native.Nat.{ℕ, zero, suc, ◌+◌, ◌≤◌, ◌<◌}
+use mathlib.Core.List.{List}
+use Prim.Native.Nat.{ℕ, ◌+◌, ◌≤◌, ◌<◌}
 use native.Mathlib.Decide.{dec_lt}
 use native.Mathlib.Omega.{arith}
 use borrow.Author.Count.{below_more}
-use lib.ListN.{length, get_or, set, replicate, length-set, length-map, length-replicate, get_or-replicate, get_or-eq_default}
+use lib.ListN.{length, get_or, set, replicate, length-set, length-replicate, get_or-replicate, get_or-eq_default}
 use lib.Seq.{get_or-set_same, get_or-set_other, ext_get_or}
 
 -- by whether a place lies inside the list or beyond its end
@@ -55,14 +55,3 @@ module _ {A : Type 0} {d : A} {P : ℕ → A → Type 0} where
         → ((j : ℕ) (x : A) → j < length before → P j x → x ≡ get_or wanted j d) → after ≡ wanted
     all_filled whole wanted long said =
         ext_get_or d after wanted (f.same_length ∙ sym long) (λ j h. said j (get_or after j d) (omega (arith, f.same_length)) (f.filled j (omega arith)))
-
--- ---- Every place replaced by what a function makes of it
-
-pub get_d_map : {A : Type 0} (f : A → A) (xs : List A) (j : ℕ) (d : A) → j < length xs → get_or (map f xs) j d ≡ f (get_or xs j d)
-get_d_map f [] j d h = absurd (omega arith)
-get_d_map f (x ∷ xs) zero d h = refl
-get_d_map f (x ∷ xs) (suc j) d h = get_d_map f xs j d (omega arith)
-
-pub all_replaced : {A : Type 0} (f : A → A) {d : A} {before after : List A} {r : ℕ} → FilledTo d (λ j x. x ≡ f (get_or before j d)) before after r
-    → length after ≤ r → after ≡ map f before
-all_replaced f {d} {before} filled whole = all_filled filled whole (map f before) (length-map before f) (λ j x h e. e ∙ sym (get_d_map f before j d h))

@@ -1,14 +1,14 @@
-// Reading a place of a list, storing and copying into a part of one, and clearing one.
+// Reading a place of a list, storing and copying into a part of one.
 #![tactic(auto)]
 
-ghost use Rattle.std.specs.Prelude.{◌≡◌, [], ◌∷◌, ◌+◌, ◌≤◌, pos, length, get_or, replicate};
+ghost use Rattle.std.specs.Prelude.{◌≡◌, [], ◌∷◌, ◌+◌, ◌≤◌, pos, length, get_or};
 ghost use Rattle.std.proofs.lemmas.List.Edits.{sets};
 
 // A number of a list, 0 where it has ended.
 pub fn number_at(list: &[i64], at: usize) -> i64
     ensures { result ≡ get_or list.now at (pos 0) }
 {
-    if at < list.len() { list[at] } else { 0 }
+    list.get(at).copied().unwrap_or(0)
 }
 
 // Stores three figures, one after another, from a place on.
@@ -26,23 +26,5 @@ pub fn copy_into(list: &mut [i64], at: usize, from: &[i64])
     requires { at + length from.now ≤ length list.old }
     ensures { list.new ≡ sets list.old at from.now }
 {
-    let count = from.len();
-    let mut j = 0;
-    while j < count {
-        let figure = from[j];
-        list[at + j] = figure;
-        j += 1;
-    }
-}
-
-// Fills a list of any length with zeros.
-pub fn clear(list: &mut [i64])
-    ensures { list.new ≡ replicate (length list.old) (pos 0) }
-{
-    let count = list.len();
-    let mut j = 0;
-    while j < count {
-        list[j] = 0;
-        j += 1;
-    }
+    list[at..at + from.len()].copy_from_slice(from);
 }

@@ -1,4 +1,3 @@
--- The laws of a text that is shown byte by byte, and of one in double quotes; the worked examples.
+-- The laws of a text that is shown byte by byte; the worked examples.
 pub mod ShownTexts
-pub mod QuotedTexts
 pub mod Examples

@@ -1,12 +1,14 @@
 // What was met where a fault is: a line, or one of its cells.
-ghost use Rattle.std.specs.Prelude.{◌≡◌, ◌≤◌, length};
+ghost use Rattle.std.specs.Prelude.{◌≡◌};
+ghost use Rattle.std.specs.Option.{option_copied};
 ghost use Rattle.met_text.specs.Met as meaning;
 
-use line_parts::cells::{first_cell, from_field, separator_of, trimmed};
+use line_parts::cells::{Text, separator_of, trimmed};
 use text::lines::line_at;
-use text::search::{Sought, find};
+use text::search::{find, from};
 
 // At this line and cell of a text, which count from 1. The cell is 0 where the whole line is meant.
+#[tactic(auto, unfolding(crate::specs::Met::met_at))]
 pub fn met_at(text: &[u8], line: usize, cell: usize) -> &[u8]
     ensures { result.now ≡ meaning.met_at line cell text.now }
 {
@@ -14,36 +16,33 @@ pub fn met_at(text: &[u8], line: usize, cell: usize) -> &[u8]
     if cell == 0 {
         return trimmed(whole);
     }
-    let separator = separator_of(text);
-    met_first(from_field(whole, separator, cell - 1), separator)
+    let fields = Text {
+        bytes: whole,
+        separator: separator_of(text),
+    };
+    met_first(fields.from_field(cell - 1))
 }
 
 // The first cell of what is left of a line. One that begins with a double quote goes on to the next double quote.
-fn met_first(rest: &[u8], separator: u8) -> &[u8]
-    ensures { result.now ≡ meaning.met_first separator rest.now }
+#[tactic(auto, unfolding(crate::specs::Met::met_first))]
+fn met_first(rest: Text<'_>) -> &[u8]
+    ensures { result.now ≡ meaning.met_first rest.entry.separator rest.entry.bytes.now }
 {
-    let start = find(rest, Sought::NotSpace);
-    let quoted = quoted_length(&rest[start..]);
-    if quoted == 0 {
-        return first_cell(rest, separator);
+    match quoted(from(rest.bytes, |byte| byte != b' ')) {
+        Some(quoted) => quoted,
+        None => rest.first_cell(),
     }
-    let end = start + quoted;
-    &rest[start..end]
 }
 
-// The length of the text in double quotes that stands at the start of another, with its quotes; 0 where none does.
-fn quoted_length(text: &[u8]) -> usize
-    ensures { (result ≡ meaning.quoted_length text.now) × (result ≤ length text.now) }
+// The text in double quotes that stands at the start of another, with its quotes.
+#[tactic(auto, unfolding(crate::specs::Met::quoted_length))]
+fn quoted(text: &[u8]) -> Option<&[u8]>
+    ensures { option_copied result ≡ meaning.quoted text.now }
 {
-    if text.len() == 0 {
-        return 0;
+    let rest = text.strip_prefix(b"\"")?;
+    let inside = find(rest, |byte| byte == b'"');
+    if inside == rest.len() {
+        return None;
     }
-    if text[0] != b'"' {
-        return 0;
-    }
-    let inside = find(&text[1..], Sought::Byte(b'"'));
-    if inside + 1 < text.len() {
-        return inside + 2;
-    }
-    0
+    Some(&text[..inside + 2])
 }

@@ -4,19 +4,20 @@ ghost use Rattle.printed.specs.Line.{After};
 ghost use Rattle.met_text.specs.ShownText as meaning;
 ghost use Rattle.met_text.specs.ShownText.{shown_text, shown_byte};
 
-use printed::line::{Line, with_byte, with_text};
+use printed::line::Line;
 
 // A line with what was met after it.
+#[tactic(auto, unfolding(crate::specs::ShownText::shown_text))]
 pub fn with_shown(line: Line, met: &[u8]) -> Line
     ensures { After line (shown_text met.now) result }
 {
-    if met.len() == 0 {
-        return with_text(line, b"a blank cell");
+    if met.is_empty() {
+        return line.with_text(b"a blank cell");
     }
     if met.len() <= MOST_SHOWN {
         return with_first_bytes(line, met);
     }
-    with_text(with_first_bytes(line, met), b"...")
+    with_first_bytes(line, met).with_text(b"...")
 }
 
 const MOST_SHOWN: usize = 40;
@@ -26,13 +27,8 @@ fn with_first_bytes(line: Line, met: &[u8]) -> Line
     ensures { After line (map shown_byte (take 40 met.now)) result }
 {
     let mut longer = line;
-    let mut at = 0;
-    while at < met.len() {
-        if at == MOST_SHOWN {
-            return longer;
-        }
-        longer = with_byte(longer, shown_byte(met[at]));
-        at += 1;
+    for byte in &met[..MOST_SHOWN.min(met.len())] {
+        longer = longer.with_byte(shown_byte(*byte));
     }
     longer
 }
@@ -41,11 +37,9 @@ fn with_first_bytes(line: Line, met: &[u8]) -> Line
 fn shown_byte(byte: u8) -> u8
     ensures { result ≡ meaning.shown_byte byte }
 {
-    if byte == b'\t' {
-        return b' ';
+    match byte {
+        b'\t' => b' ',
+        byte if byte.is_ascii_control() => b'?',
+        byte => byte,
     }
-    if (byte < 32) | (byte == 127) {
-        return b'?';
-    }
-    byte
 }

@@ -1,5 +1,3 @@
--- The laws of a prepared ratio: its digits, its signs, its exposure, its parts.
+-- The laws of a prepared ratio: its digits and its parts.
 pub mod Reciprocal
-pub mod Signs
-pub mod Exposures
 pub mod Ratios

@@ -5,79 +5,80 @@ use native.Mathlib.Nat.{mul-le-mul_left, mul-le-mul_right, lt_of_mul-lt-mul_righ
 use native.Mathlib.Omega.{arith}
 use Rattle.integers.proofs.Estimates.{estimate-≤, estimate-<}
 use Rattle.method.specs.SumLimits.{greatest_sum}
-use Rattle.prepared_ratios.specs.declared.Digit.{Digit}
-use Rattle.prepared_ratios.specs.Ratio.{Divisor, Division, DigitInput, NextDigit, FractionOf}
+use Rattle.prepared_ratios.specs.declared.Divided.{Divided}
+use Rattle.prepared_ratios.specs.declared.Divisor.{Divisor}
+use Rattle.prepared_ratios.specs.Ratio.{Division, NextDigit, FractionOf}
 
 -- a quotient and a remainder are known by the dividend that they make
-division_by : (x d q r : ℕ) → x ≡ q * d + r → r < d → Division x d (record { quotient = q; remainder = r })
+division_by : (x d q r : ℕ) → x ≡ q * d + r → r < d → Division x d (record { quotient = q; left = r })
 division_by x d q r e l = record { quotient_is = sym quotient_is; remainder_is = sym (mod-eq-sub-div-mul x d ∙ omega (arith, e, ap (λ t. t * d) quotient_is)) }
   where
     quotient_is : x / d ≡ q
     quotient_is = div-eq_of_lt-le {k = q} d {m = x} (omega arith) (omega arith)
 
-module _ {exposure reciprocal : ℕ} (d : Divisor exposure reciprocal) where
-  reciprocal-≤ : reciprocal * exposure ≤ 2 ^ 62
-  reciprocal-≤ = subst (λ (i : ℕ). i * exposure ≤ 2 ^ 62) (sym d.reciprocal_is) (omega (arith, div-add-mod' (2 ^ 62) exposure))
+module _ (d : Divisor) where
+  reciprocal-≤ : d.reciprocal * d.exposure ≤ 2 ^ 62
+  reciprocal-≤ = subst (λ (i : ℕ). i * d.exposure ≤ 2 ^ 62) (sym d.reciprocal_is) (omega (arith, div-add-mod' (2 ^ 62) d.exposure))
 
-  reciprocal-< : 2 ^ 62 < (reciprocal + 1) * exposure
+  reciprocal-< : 2 ^ 62 < (d.reciprocal + 1) * d.exposure
   reciprocal-< =
-      subst (λ (i : ℕ). 2 ^ 62 < (i + 1) * exposure) (sym d.reciprocal_is)
-      (omega (arith, div-add-mod' (2 ^ 62) exposure, mod-lt (2 ^ 62) {m = exposure} d.exposed.positive))
+      subst (λ (i : ℕ). 2 ^ 62 < (i + 1) * d.exposure) (sym d.reciprocal_is)
+      (omega (arith, div-add-mod' (2 ^ 62) d.exposure, mod-lt (2 ^ 62) {m = d.exposure} d.exposed.positive))
 
 -- ---- A quotient
 
-module _ {dividend exposure reciprocal : ℕ} (d : Divisor exposure reciprocal) (h : dividend ≤ greatest_sum) where
+module _ {dividend : ℕ} (d : Divisor) (h : dividend ≤ greatest_sum) where
   abbrev estimate : ℕ
-  estimate = 4 * dividend * reciprocal / 2 ^ 64
+  estimate = 4 * dividend * d.reciprocal / 2 ^ 64
 
-  pub estimated-≤ : estimate * exposure ≤ dividend
-  estimated-≤ = omega (arith, estimate-≤ (2 ^ 62) 1 exposure reciprocal dividend estimate (omega arith) (omega (arith, reciprocal-≤ d)) (omega arith))
+  pub estimated-≤ : estimate * d.exposure ≤ dividend
+  estimated-≤ = omega (arith, estimate-≤ (2 ^ 62) 1 d.exposure d.reciprocal dividend estimate (omega arith) (omega (arith, reciprocal-≤ d)) (omega arith))
 
-  estimated-< : dividend < (estimate + 2) * exposure
-  estimated-< = omega (arith, estimate-< (2 ^ 62) 1 exposure reciprocal 1 dividend estimate 1 d.exposed.positive (omega (arith, reciprocal-< d)) (omega arith) (omega arith))
+  estimated-< : dividend < (estimate + 2) * d.exposure
+  estimated-< = omega (arith, estimate-< (2 ^ 62) 1 d.exposure d.reciprocal 1 dividend estimate 1 d.exposed.positive (omega (arith, reciprocal-< d)) (omega arith) (omega arith))
 
   -- what the estimate leaves of the dividend tells whether it is one too little
-  pub estimate_right : dividend - estimate * exposure < exposure
-      → Division dividend exposure (record { quotient = estimate; remainder = dividend - estimate * exposure })
-  estimate_right l = division_by dividend exposure estimate (dividend - estimate * exposure) (omega (arith, estimated-≤)) l
+  pub estimate_right : dividend - estimate * d.exposure < d.exposure
+      → Division dividend d.exposure (record { quotient = estimate; left = dividend - estimate * d.exposure })
+  estimate_right l = division_by dividend d.exposure estimate (dividend - estimate * d.exposure) (omega (arith, estimated-≤)) l
 
-  pub estimate_corrected : exposure ≤ dividend - estimate * exposure
-      → Division dividend exposure (record { quotient = estimate + 1; remainder = dividend - estimate * exposure - exposure })
+  pub estimate_corrected : d.exposure ≤ dividend - estimate * d.exposure
+      → Division dividend d.exposure (record { quotient = estimate + 1; left = dividend - estimate * d.exposure - d.exposure })
   estimate_corrected l =
-      division_by dividend exposure (estimate + 1) (dividend - estimate * exposure - exposure) (omega (arith, estimated-≤)) (omega (arith, estimated-<))
+      division_by dividend d.exposure (estimate + 1) (dividend - estimate * d.exposure - d.exposure) (omega (arith, estimated-≤)) (omega (arith, estimated-<))
 
 -- ---- One digit
 
-module _ {left exposure reciprocal : ℕ} (i : DigitInput left exposure reciprocal) where
+module _ {left : ℕ} (d : Divisor) (h : left < 3 * d.exposure) where
   abbrev digit : ℕ
-  digit = left * reciprocal / 2 ^ 42
+  digit = left * d.reciprocal / 2 ^ 42
 
-  pub scaled-≤ : left * reciprocal ≤ 3 * 2 ^ 62
-  scaled-≤ = omega (arith, mul-le-mul_right reciprocal i.left_most, reciprocal-≤ i.divisor)
+  pub scaled-≤ : left * d.reciprocal ≤ 3 * 2 ^ 62
+  scaled-≤ = omega (arith, mul-le-mul_right d.reciprocal h, reciprocal-≤ d)
 
-  pub taken-≤ : digit * exposure ≤ left * 2 ^ 20
-  taken-≤ = estimate-≤ (2 ^ 42) (2 ^ 20) exposure reciprocal left digit (omega arith) (reciprocal-≤ i.divisor) (omega arith)
+  pub taken-≤ : digit * d.exposure ≤ left * 2 ^ 20
+  taken-≤ = estimate-≤ (2 ^ 42) (2 ^ 20) d.exposure d.reciprocal left digit (omega arith) (reciprocal-≤ d) (omega arith)
 
-  pub next_digit_by : NextDigit left exposure (record { digit = digit; left = left * 2 ^ 20 - digit * exposure })
-  next_digit_by = record { exact = omega (arith, taken-≤); below = λ times h. omega (arith, taken-≤, short times h) }
+  pub next_digit_by : NextDigit left d.exposure (record { quotient = digit; left = left * 2 ^ 20 - digit * d.exposure })
+  next_digit_by = record { exact = omega (arith, taken-≤); below = λ times l. omega (arith, taken-≤, short times l) }
     where
-      short : (times : ℕ) → left < times * exposure → left * 2 ^ 20 < (digit + 1 + times) * exposure
-      short times h =
-          estimate-< (2 ^ 42) (2 ^ 20) exposure reciprocal 1 left digit times i.divisor.exposed.positive (reciprocal-< i.divisor) (omega arith)
-          (omega (arith, mul-le-mul_left times i.divisor.exposed.most))
+      short : (times : ℕ) → left < times * d.exposure → left * 2 ^ 20 < (digit + 1 + times) * d.exposure
+      short times l =
+          estimate-< (2 ^ 42) (2 ^ 20) d.exposure d.reciprocal 1 left digit times d.exposed.positive (reciprocal-< d) (omega arith)
+          (omega (arith, mul-le-mul_left times d.exposed.most))
 
 -- ---- Three digits
 
-abbrev pub digits_together : (first second third : Digit) → ℕ
-digits_together first second third = ((first.digit * 2 ^ 20 + second.digit) * 2 ^ 20 + third.digit) * 16
+abbrev pub digits_together : (first second third : Divided ℕ ℕ) → ℕ
+digits_together first second third = ((first.quotient * 2 ^ 20 + second.quotient) * 2 ^ 20 + third.quotient) * 16
 
-pub first_below : {remainder exposure : ℕ} {first : Digit} → remainder < exposure → NextDigit remainder exposure first → first.left < 2 * exposure
+first_below : {remainder exposure : ℕ} {first : Divided ℕ ℕ} → remainder < exposure → NextDigit remainder exposure first → first.left < 2 * exposure
 first_below h f = f.below 1 (omega arith)
 
-pub second_below : {left exposure : ℕ} {second : Digit} → left < 2 * exposure → NextDigit left exposure second → second.left < 3 * exposure
+second_below : {left exposure : ℕ} {second : Divided ℕ ℕ} → left < 2 * exposure → NextDigit left exposure second → second.left < 3 * exposure
 second_below h s = s.below 2 h
 
-module _ {remainder exposure : ℕ} {first second third : Digit} (h : remainder < exposure)
+module _ {remainder exposure : ℕ} {first second third : Divided ℕ ℕ} (h : remainder < exposure)
     (f : NextDigit remainder exposure first) (s : NextDigit first.left exposure second) (t : NextDigit second.left exposure third) where
   pub fraction_by : FractionOf remainder exposure (digits_together first second third)
   fraction_by = record {

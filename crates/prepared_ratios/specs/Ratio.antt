@@ -3,30 +3,23 @@ use Rattle.std.specs.Prelude.{◌≡◌, ℕ, ◌+◌, ◌*◌, ◌/◌, ◌%◌
 use Rattle.method.specs.Limits.{greatest_figure}
 use Rattle.method.specs.SumLimits.{greatest_sum}
 use Rattle.prepared_ratios.specs.declared.Ratio.{Ratio}
-use Rattle.prepared_ratios.specs.declared.Floored.{Floored}
 use Rattle.prepared_ratios.specs.declared.Divided.{Divided}
-use Rattle.prepared_ratios.specs.declared.Digit.{Digit}
 
 -- The size of D, which question 8 has found above 0.
 pub record Exposure (exposure : ℕ) : Type 0 where
   pub positive : 0 < exposure
   pub most : exposure ≤ greatest_sum
 
--- An exposure with its reciprocal, in units of 2^-62.
-pub record Divisor (exposure reciprocal : ℕ) : Type 0 where
-  pub exposed : Exposure exposure
-  pub reciprocal_is : reciprocal ≡ 2 ^ 62 / exposure
-
 -- ---- Quotient and remainder
 
-pub record Division (dividend exposure : ℕ) (r : Divided) : Type 0 where
+pub record Division (dividend exposure : ℕ) (r : Divided ℕ ℕ) : Type 0 where
   pub quotient_is : r.quotient ≡ dividend / exposure
-  pub remainder_is : r.remainder ≡ dividend % exposure
+  pub remainder_is : r.left ≡ dividend % exposure
 
 -- Rounded down, so that the remainder is never negative.
-pub record FloorOf (part : ℤ) (exposure : ℕ) (r : Floored) : Type 0 where
-  pub exact : r.quotient *ℤ pos exposure +ℤ pos r.remainder ≡ part
-  pub below : r.remainder < exposure
+pub record FloorOf (part : ℤ) (exposure : ℕ) (r : Divided ℤ ℕ) : Type 0 where
+  pub exact : r.quotient *ℤ pos exposure +ℤ pos r.left ≡ part
+  pub below : r.left < exposure
   pub size : nat_abs r.quotient ≤ nat_abs part
 
 -- ---- Fraction
@@ -36,14 +29,9 @@ pub record FractionOf (remainder exposure fraction : ℕ) : Type 0 where
   pub low : fraction * exposure ≤ remainder * 2 ^ 64
   pub high : remainder * 2 ^ 64 < (fraction + 64) * exposure
 
--- what the digits before have left
-pub record DigitInput (left exposure reciprocal : ℕ) : Type 0 where
-  pub divisor : Divisor exposure reciprocal
-  pub left_most : left < 3 * exposure
-
 -- The digit may be too little, by as much as leaves one exposure more than was left before.
-pub record NextDigit (left exposure : ℕ) (r : Digit) : Type 0 where
-  pub exact : left * 2 ^ 20 ≡ r.digit * exposure + r.left
+pub record NextDigit (left exposure : ℕ) (r : Divided ℕ ℕ) : Type 0 where
+  pub exact : left * 2 ^ 20 ≡ r.quotient * exposure + r.left
   pub below : (times : ℕ) → left < times * exposure → r.left < (times + 1) * exposure
 
 -- ---- Reach

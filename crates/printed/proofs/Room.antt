@@ -6,10 +6,11 @@ use Prim.Native.Nat.{ℕ, zero, suc, ◌+◌, ◌-◌, ◌*◌, ◌/◌, ◌^◌
 use native.Mathlib.Nat.{suc-mul}
 use native.Mathlib.Omega.{arith}
 use borrow.Author.Tests.{leb-true, lt-ltb}
-use lib.Dec.{leb, ltb, eqb}
+use lib.Dec.{leb, eqb}
 use lib.IntN.{ℤ, pos, negsuc, nat_abs}
 use lib.ListN.{length, get_or, drop, replicate, length-append, length-replicate}
-use Rattle.written_figures.specs.Writing.{space, digit, three_digits, six_digits, comma, point, first_group, grouped_in, grouped, whole_text, amount_text}
+use Rattle.written_figures.specs.Writing.{space, six_digits, point, grouped_in, grouped, whole_text, amount_text}
+use Rattle.written_figures.proofs.GroupedDigits.{first_group_length, grouped_in_length}
 use Rattle.printed.specs.declared.line.Line.{Line}
 use Rattle.printed.specs.Line.{text_of, LineIs}
 use Rattle.printed.specs.Filling.{place, filled, places}
@@ -22,20 +23,6 @@ use Rattle.printed.proofs.LineTexts.{fitted_whole}
 pub one_of_two : {X : Type 0} (size : X → ℕ) (most : ℕ) (b : Bool) (x y : X) → size x ≤ most → size y ≤ most → size (cond b x y) ≤ most
 one_of_two size most true x y h k = h
 one_of_two size most false x y h k = k
-
-first_group_length : (n : ℕ) → length (first_group n) ≤ 3
-unfolding first_group
-first_group_length n =
-    one_of_two length 3 (ltb n 10) (digit n ∷ []) _ (omega arith)
-    (one_of_two length 3 (ltb n 100) (digit (n / 10) ∷ digit n ∷ []) (three_digits n) (omega arith) (omega arith))
-
-grouped_in_length : (k n : ℕ) → length (grouped_in k n) ≤ 4 * k + 3
-unfolding grouped_in
-grouped_in_length zero n = first_group_length n
-grouped_in_length (suc k) n =
-    one_of_two length (4 * suc k + 3) (ltb n 1_000) (first_group n) (grouped_in k (n / 1_000) ++ comma ∷ three_digits n)
-    (omega (arith, first_group_length n))
-    (omega (arith, length-append (grouped_in k (n / 1_000)) (comma ∷ three_digits n), grouped_in_length k (n / 1_000)))
 
 pub number_length : (z : ℤ) → length (whole_text z) ≤ 28
 unfolding grouped

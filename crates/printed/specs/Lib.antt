@@ -3,4 +3,5 @@ pub mod Line
 pub mod Counts
 pub mod Filling
 pub mod Entries
+pub mod Columns
 pub mod WorkedLines

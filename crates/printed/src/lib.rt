@@ -2,6 +2,7 @@
 // and the entries of a table.
 #![tactic(auto)]
 
+pub mod columns;
 pub mod counts;
 pub mod entries;
 pub mod filling;

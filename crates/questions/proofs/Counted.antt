@@ -2,9 +2,10 @@
 use mathlib.Core.Path.{◌≡◌, sym, ap₂, ◌∙◌}
 use mathlib.Core.Bool.{true, and_assoc}
 use mathlib.Core.Bool as bool
-use mathlib.Core.List.{List}
+use Rattle.std.specs.Prelude.{Option, Some, None}
 use lib.Dec.{eqb}
-use lib.IntN.{ℤ, nat_abs}
+use native.Mathlib.Omega.{arith}
+use lib.IntN.{ℤ, pos, nat_abs}
 use Rattle.method.specs.Triangle.{Triangle, n, Y, future_length, reserves_length}
 use Rattle.method.specs.Verdicts.{accepted, ◌then◌}
 use Rattle.method.specs.Questions.{input_lengths_right, lengths_right, list_questions, input_questions}
@@ -12,37 +13,39 @@ use Rattle.method.specs.Demand1.{InputLengthsRight}
 use Rattle.method.proofs.Tests.{and-true}
 use Rattle.method.proofs.FirstRefusal.{then_accepted, then_assoc}
 use Rattle.method.proofs.QuestionFacts.{YearsInRange, CutInRange, years_accepted, cut_accepted, lengths_accepted, says_input_lengths}
-use Rattle.list_lengths.specs.declared.AnswerLists.{AnswerLists}
-use Rattle.list_lengths.specs.declared.AnswerLists.TheVariants.{NotGiven, FutureAndReserves}
+use Rattle.lent.specs.declared.AnswerLengths.{AnswerLengths}
+use Rattle.lent.specs.Triangles.{counted, lists_right}
 use Rattle.list_lengths.specs.declared.ListLengths.{ListLengths}
 use Rattle.list_lengths.specs.Lengths.{answers_right, list_lengths_right, questions_1_to_3}
-use Rattle.questions.specs.Inputs.{triangle_of, counted, lists_right, lengths_of}
+use Rattle.questions.specs.Inputs.{Measured, lengths_of}
 
 -- ---- Question 3 of a triangle's lists
 
 -- by their lengths it is document 01's
-pub lists_right_is : (t : Triangle) (answers : AnswerLists) → list_lengths_right (n t) (Y t) (lengths_of t answers) ≡ lists_right t answers
+pub lists_right_is : (t : Triangle) (answers : Option AnswerLengths) → list_lengths_right (n t) (Y t) (lengths_of t answers) ≡ lists_right t answers
 unfolding list_lengths_right input_lengths_right lengths_right
-lists_right_is t NotGiven = bool.and-true (input_lengths_right t)
-lists_right_is t (FutureAndReserves future reserves) =
-    sym (and_assoc (input_lengths_right t) (eqb future (future_length (n t))) (eqb reserves (reserves_length (n t))))
+lists_right_is t None = bool.and-true (input_lengths_right t)
+lists_right_is t (Some lent) =
+    sym (and_assoc (input_lengths_right t) (eqb lent.future (future_length (n t))) (eqb lent.reserves (reserves_length (n t))))
 
 -- where it was answered yes, whatever the answer lists
-pub inputs_right : (t : Triangle) (answers : AnswerLists) → lists_right t answers ≡ true → input_lengths_right t ≡ true
+pub inputs_right : (t : Triangle) (answers : Option AnswerLengths) → lists_right t answers ≡ true → input_lengths_right t ≡ true
 unfolding list_lengths_right input_lengths_right
 inputs_right t answers e = (and-true (input_lengths_right t) (answers_right (n t) answers) (lists_right_is t answers ∙ e)).0
 
-pub lists_have_lengths : (t : Triangle) (answers : AnswerLists) → lists_right t answers ≡ true → InputLengthsRight t
+pub lists_have_lengths : (t : Triangle) (answers : Option AnswerLengths) → lists_right t answers ≡ true → InputLengthsRight t
 lists_have_lengths t answers e = (says_input_lengths t).sound (inputs_right t answers e)
 
 -- ---- Questions 1 to 3, and then those of the lists
 
-pub counted_is : (years cut : ℤ) (payments adjustments weights openings : List ℤ) → YearsInRange years → CutInRange cut (nat_abs years)
-    → triangle_of years cut payments adjustments weights openings ≡ counted (nat_abs years) (nat_abs cut) payments adjustments weights openings
-counted_is years cut payments adjustments weights openings y c =
-    ap₂ (λ (a b : ℤ). triangle_of a b payments adjustments weights openings) y.counted c.counted
+abbrev with_years_and_cut : Triangle → ℤ → ℤ → Triangle
+with_years_and_cut t years cut = record t { years = years; cut = cut }
 
-pub input_questions_is : (t : Triangle) (answers : AnswerLists)
+pub counted_is : (t : Triangle) → t.years ≡ pos (n t) → t.cut ≡ pos (Y t)
+    → t ≡ counted (n t) (Y t) t.payments t.adjustments t.weights t.openings
+counted_is t = ap₂ (with_years_and_cut t)
+
+pub input_questions_is : (t : Triangle) (answers : Option AnswerLengths)
     → (questions_1_to_3 t.years t.cut (lengths_of t answers) then list_questions t) ≡ input_questions t (lists_right t answers)
 unfolding input_questions
 input_questions_is t answers = simp (then_assoc, lists_right_is t answers)
@@ -55,6 +58,13 @@ module _ (years cut : ℤ) (l : ListLengths) (e : questions_1_to_3 years cut l �
   pub cut_right : CutInRange cut (nat_abs years)
   cut_right = cut_accepted years cut years_right (then_accepted _ _ (then_accepted _ _ e).1).0
 
-pub inputs_measured : (t : Triangle) (answers : AnswerLists) → questions_1_to_3 t.years t.cut (lengths_of t answers) ≡ accepted
-    → input_lengths_right t ≡ true
-inputs_measured t answers e = inputs_right t answers (sym (lists_right_is t answers) ∙ lengths_accepted _ (then_accepted _ _ (then_accepted _ _ e).1).1)
+pub measured : (t : Triangle) (answers : Option AnswerLengths) → questions_1_to_3 t.years t.cut (lengths_of t answers) ≡ accepted → Measured t
+measured t answers e =
+    let y : YearsInRange t.years = years_right _ _ _ e in
+    record {
+      years_counted = y.counted;
+      cut_counted = (cut_right _ _ _ e).counted;
+      first = omega (arith, y.fewest);
+      most = y.most;
+      lengths = inputs_right t answers (sym (lists_right_is t answers) ∙ lengths_accepted _ (then_accepted _ _ (then_accepted _ _ e).1).1);
+    }

@@ -1,3 +1,2 @@
 -- Laws that serve several functions, from below.
 pub mod Counted
-pub mod ObservedOutstandings

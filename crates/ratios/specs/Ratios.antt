@@ -10,7 +10,7 @@ use Rattle.method.specs.Outstandings.{R, sums}
 use Rattle.method.specs.Verdicts.{accepted}
 use Rattle.method.specs.Questions.{input_lengths_right, input_questions}
 use Rattle.ratios.specs.declared.Sums.{Sums}
-use Rattle.questions.specs.Inputs.{counted}
+use Rattle.ratios.specs.declared.Development.{Development}
 
 -- ---- The sums of the code and of document 01
 
@@ -36,14 +36,18 @@ pub record DevelopmentOf (t : Triangle) (ratios : List Sums) (outstandings : Lis
   pub ratios_long : length ratios ≡ most_ratios
   pub outstandings_long : length outstandings ≡ most_accident_years
 
--- a triangle that has passed questions 1 to 7; its cut is not needed to form a ratio
-pub record Readable (n : ℕ) (payments adjustments weights openings : List ℤ) : Type 0 where
-  pub cut : ℕ
-  pub inputs_right : input_lengths_right (counted n cut payments adjustments weights openings) ≡ true
-  pub passed : input_questions (counted n cut payments adjustments weights openings) true ≡ accepted
+abbrev pub with_cut : Triangle → ℤ → Triangle
+with_cut t cut = record t { cut = cut }
 
-pub record DevelopmentRead (n : ℕ) (payments adjustments weights openings : List ℤ) (ratios : List Sums) (outstandings : List ℤ) : Type 0 where
-  pub development : (cut : ℕ) → DevelopmentOf (counted n cut payments adjustments weights openings) ratios outstandings
+-- a triangle that has passed questions 1 to 7; its cut is not needed to form a ratio, and may be another
+pub record Readable (t : Triangle) : Type 0 where
+  pub cut : ℤ
+  pub inputs_right : input_lengths_right (with_cut t cut) ≡ true
+  pub passed : input_questions (with_cut t cut) true ≡ accepted
+
+-- whatever its cut
+pub record DevelopmentRead (t : Triangle) (d : Development) : Type 0 where
+  pub development : (cut : ℤ) → DevelopmentOf (with_cut t cut) d.ratios d.outstandings
 
 -- ---- The outstandings of development year 1
 

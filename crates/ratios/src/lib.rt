@@ -1,9 +1,11 @@
 // The ratios: the three sums of every development year, and the last observed outstandings.
 #![tactic(auto)]
 
-ghost use Rattle.std.specs.Prelude.{◌≡◌, ◌+ℤ◌, ◌*ℤ◌, ◌-◌, ◌≤◌};
+ghost use Rattle.std.specs.Prelude.{◌≡◌, ◌+ℤ◌, ◌*ℤ◌, ◌-◌};
+ghost use Rattle.lent.specs.Triangles.{triangle_of};
 ghost use Rattle.ratios.specs.Ratios.{Readable, DevelopmentRead, FirstYear, FirstOutstandings, DevelopmentYearInput, partial_sums, MovedOn, sums_of, RowAddable, with_row, Summable};
 
+use lent::Triangle;
 use outstandings::{next_outstanding, opening_of};
 use verdicts::limits::{ACCIDENT_YEARS, DEVELOPMENT_YEARS};
 
@@ -25,7 +27,7 @@ pub const NO_SUMS: Sums = Sums {
 };
 
 // The ratios of development year k, as its sums, stand at k − 1; the last observed outstanding of accident year i, in whole units, at i − 1.
-// What lies beyond the years of the triangle holds zeros.
+// What lies beyond the years of the triangle holds zeros: arrays of the largest size, since the library uses no heap.
 #[derive(Clone, Copy)]
 pub struct Development {
     pub ratios: [Sums; DEVELOPMENT_YEARS],
@@ -33,103 +35,83 @@ pub struct Development {
 }
 
 // The ratios and last observed outstandings of a triangle that has passed questions 1 to 7.
-pub fn development_of<'a>(
-    n: usize,
-    payments: &'a [i64],
-    adjustments: &'a [i64],
-    weights: &'a [i64],
-    openings: &'a [i64],
-) -> Development
-    requires { Readable n payments.now adjustments.now weights.now openings.now }
-    ensures { DevelopmentRead n payments.now adjustments.now weights.now openings.now result.ratios result.outstandings }
+pub fn development_of(triangle: Triangle<'_>) -> Development
+    requires { Readable (triangle_of triangle) }
+    ensures { DevelopmentRead (triangle_of triangle.entry) result }
 {
+    let n = triangle.years as usize;
     let mut ratios = [NO_SUMS; DEVELOPMENT_YEARS];
-    let mut outstandings = first_outstandings(n, payments, adjustments, openings);
-    let mut k = 1;
-    while k < n {
-        let sums = development_year(n, k, payments, adjustments, weights, &mut outstandings);
-        ratios[k - 1] = sums;
-        k += 1;
+    let mut outstandings = first_outstandings(n, triangle);
+    for k in 1..n {
+        ratios[k - 1] = development_year(n, k, triangle, &mut outstandings);
     }
     Development {
-        ratios: ratios,
-        outstandings: outstandings,
+        ratios,
+        outstandings,
     }
 }
 
 // The outstandings of development year 1.
-fn first_outstandings<'a>(
-    n: usize,
-    payments: &'a [i64],
-    adjustments: &'a [i64],
-    openings: &'a [i64],
-) -> [i64; ACCIDENT_YEARS]
-    requires { FirstYear n payments.now adjustments.now openings.now }
-    ensures { FirstOutstandings n payments.now adjustments.now openings.now result }
+fn first_outstandings(n: usize, triangle: Triangle<'_>) -> [i64; ACCIDENT_YEARS]
+    requires { FirstYear n triangle.payments.now triangle.adjustments.now triangle.openings.now }
+    ensures { FirstOutstandings n triangle.entry.payments.now triangle.entry.adjustments.now triangle.entry.openings.now result }
 {
     let mut outstandings = [0; ACCIDENT_YEARS];
     let mut start = 0;
-    let mut r = 0;
-    while r < n {
-        let opening = opening_of(openings, r);
-        let outstanding = next_outstanding(opening, payments[start], adjustments[start]);
-        outstandings[r] = outstanding;
+    for r in 0..n {
+        outstandings[r] = next_outstanding(
+            opening_of(triangle.openings, r),
+            triangle.payments[start],
+            triangle.adjustments[start],
+        );
         start += n - r;
-        r += 1;
     }
     outstandings
 }
 
 // The sums of development year k from the outstandings of that year, which move on to those of year k + 1.
-fn development_year<'a>(
+fn development_year(
     n: usize,
     k: usize,
-    payments: &'a [i64],
-    adjustments: &'a [i64],
-    weights: &'a [i64],
+    triangle: Triangle<'_>,
     outstandings: &mut [i64; ACCIDENT_YEARS],
 ) -> Sums
-    requires { DevelopmentYearInput n k payments.now adjustments.now weights.now outstandings.old }
-    ensures result_value { sums_of result ≡ partial_sums n k payments.now adjustments.now weights.now outstandings.old (n - k) }
-    ensures moved_on { MovedOn n k payments.now adjustments.now outstandings.old outstandings.new }
+    requires { DevelopmentYearInput n k triangle.payments.now triangle.adjustments.now triangle.weights.now outstandings.old }
+    ensures result_value { sums_of result ≡ partial_sums n k triangle.entry.payments.now triangle.entry.adjustments.now triangle.entry.weights.now outstandings.old (n - k) }
+    ensures moved_on { MovedOn n k triangle.entry.payments.now triangle.entry.adjustments.now outstandings.old outstandings.new }
 {
     let mut sums = NO_SUMS;
-    let years = summed_years(n, k);
     // Each row is entered at year k of its weights and at year k + 1 of its amounts. The weights have a row less.
     let mut weight_at = k - 1;
     let mut amount_at = k;
-    let mut r = 0;
-    while r < years {
-        let payment = payments[amount_at];
-        let adjustment = adjustments[amount_at];
+    for r in 0..n - k {
+        let payment = triangle.payments[amount_at];
+        let adjustment = triangle.adjustments[amount_at];
         let outstanding = outstandings[r];
-        sums = added(sums, weights[weight_at], payment, adjustment, outstanding);
-        let next = next_outstanding(outstanding, payment, adjustment);
-        outstandings[r] = next;
+        sums = sums.with_row(
+            triangle.weights[weight_at],
+            payment,
+            adjustment,
+            outstanding,
+        );
+        outstandings[r] = next_outstanding(outstanding, payment, adjustment);
         weight_at += n - 1 - r;
         amount_at += n - r;
-        r += 1;
     }
     sums
 }
 
-// The number of accident years that the sums of development year k run over.
-fn summed_years(n: usize, k: usize) -> usize
-    requires { k ≤ n }
-    ensures { result ≡ n - k }
-{
-    n - k
-}
-
-// The sums with one accident year more.
-fn added(sums: Sums, weight: i64, payment: i64, adjustment: i64, outstanding: i64) -> Sums
-    requires { RowAddable (sums_of sums) weight payment adjustment outstanding }
-    ensures { sums_of result ≡ with_row (sums_of sums) weight payment adjustment outstanding }
-{
-    Sums {
-        payments: plus(sums.payments, weight, payment),
-        adjustments: plus(sums.adjustments, weight, adjustment),
-        exposure: plus(sums.exposure, weight, outstanding),
+impl Sums {
+    // The sums with one accident year more.
+    fn with_row(self, weight: i64, payment: i64, adjustment: i64, outstanding: i64) -> Sums
+        requires { RowAddable (sums_of self) weight payment adjustment outstanding }
+        ensures { sums_of result ≡ with_row (sums_of self) weight payment adjustment outstanding }
+    {
+        Sums {
+            payments: plus(self.payments, weight, payment),
+            adjustments: plus(self.adjustments, weight, adjustment),
+            exposure: plus(self.exposure, weight, outstanding),
+        }
     }
 }
 

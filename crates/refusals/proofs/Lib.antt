@@ -1,4 +1,4 @@
--- The laws of places, years as counts and cells of the square; the room of every sentence; the worked examples.
-pub mod Places
+-- Counts of years, the room of every sentence, and the worked examples.
+pub mod CountsOfYears
 pub mod SentenceRoom
 pub mod Examples

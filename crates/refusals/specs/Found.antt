@@ -1,12 +1,10 @@
 -- What stands at the place of a refusal, in the words of the crates `method` and `completed`.
-use Rattle.std.specs.Prelude.{◌≡◌, Bool, ◌&&◌, List, ℕ, ◌+◌, ◌-◌, leb, eqb, ℤ, pos}
+use Rattle.std.specs.Prelude.{◌≡◌, List, ℕ, ◌+◌, ◌-◌, eqb, ℤ, pos}
 use Rattle.method.specs.Tests.{amount_right}
 use Rattle.method.specs.Triangle.{cell}
-use Rattle.completed.specs.Completed.{CellOfSquare, of_lists, OutstandingAt}
+use Rattle.completed.specs.Square.{CellOfSquare}
+use Rattle.completed.specs.Completed.{of_lists, OutstandingAt}
 use Rattle.refusals.specs.declared.found.Found.{Found}
-
-abbrev pub in_square : ℕ → ℕ → ℕ → Bool
-in_square n i k = leb 1 i && leb i n && leb 1 k && leb k n
 
 -- r is cell (i, k) of a list, where there is such a cell.
 pub record CellIn (n : ℕ) (list : List ℤ) (i k : ℕ) (r : ℤ) : Type 0 where

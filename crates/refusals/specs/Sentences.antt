@@ -1,16 +1,17 @@
 -- What is printed of a refusal by a question. docs/FORMAT.md has the table of these sentences.
-use Rattle.std.specs.Prelude.{Bool, true, false, cond, List, [], ◌∷◌, ℕ, eqb, ℤ, pos, neg_ℤ, ◌+ℤ◌, ◌-ℤ◌}
+use Rattle.std.specs.Prelude.{Bool, true, false, cond, List, [], ◌∷◌, ℕ, eqb, ℤ, pos, neg_ℤ, ◌+ℤ◌, ◌-ℤ◌, length, Option}
 use Rattle.std.specs.Int.Signed.{lt_z}
+use Rattle.std.specs.Option.{unwrap_or}
 use Rattle.figures.specs.Bytes.{bytes}
 use Rattle.exact_sums.specs.Exact.{exact_of}
 use Rattle.method.specs.Limits.{greatest_amount}
 use Rattle.method.specs.Tests.{from_to}
 use Rattle.completed.specs.Completed.{number_or_0}
-use Rattle.method.specs.Triangle.{amounts_length, weights_length, openings_length}
+use Rattle.method.specs.Triangle.{Triangle, amounts_length, weights_length, openings_length}
 use Rattle.refusals.specs.Counts.{count_of}
 use Rattle.printed.specs.Counts.{as_number}
 use Rattle.printed.specs.Filling.{filled}
-use Rattle.refusals.specs.declared.found.Lent.{Lent}
+use Rattle.verdicts.specs.declared.verdict.Place.{Place}
 use Rattle.refusals.specs.declared.found.Found.{Found}
 use Rattle.refusals.specs.declared.lines.InText.{InText}
 use Rattle.refusals.specs.declared.lines.InText.TheVariants.{Nowhere, PaymentsRow, AdjustmentsRow, BothRows, WeightsRow, OpeningsHeading}
@@ -36,15 +37,15 @@ cut_sentence cut years =
     (cut ∷ exact_or_0 (years -ℤ pos 1) ∷ [])
 
 -- The length of each list, and the length that question 3 wants for n years and the cut Y.
-unfoldable pub lengths_sentence : Lent → List ℕ
-lengths_sentence lent =
-    let n : ℕ = count_of lent.years in
-    let Y : ℕ = count_of lent.cut in
+unfoldable pub lengths_sentence : Triangle → List ℕ
+lengths_sentence t =
+    let n : ℕ = count_of t.years in
+    let Y : ℕ = count_of t.cut in
     filled (bytes "A block does not have its number of figures: payments @ of @, adjustments @ of @, weights @ of @, openings @ of @.")
-    (as_number lent.payments ∷ as_number (amounts_length n)
-    ∷ as_number lent.adjustments ∷ as_number (amounts_length n)
-    ∷ as_number lent.weights ∷ as_number (weights_length n)
-    ∷ as_number lent.openings ∷ as_number (openings_length Y) ∷ [])
+    (as_number (length t.payments) ∷ as_number (amounts_length n)
+    ∷ as_number (length t.adjustments) ∷ as_number (amounts_length n)
+    ∷ as_number (length t.weights) ∷ as_number (weights_length n)
+    ∷ as_number (length t.openings) ∷ as_number (openings_length Y) ∷ [])
 
 -- ---- At the place (i, k), where x is the number that is wrong
 
@@ -86,6 +87,12 @@ projected_sentence i k =
 unfoldable pub seen_cell_sentence : ℤ → ℤ → List ℕ
 seen_cell_sentence i k = filled (bytes "Accident year @ in development year @ is not an unseen cell of this triangle.") (i ∷ k ∷ [])
 
+-- of the cell that was asked for, or of years 0 where none was
+abbrev pub asked_sentence : Option Place → List ℕ
+asked_sentence asked =
+    let place : Place = unwrap_or asked (record { accident_year = pos 0; development_year = pos 0 }) in
+    seen_cell_sentence place.accident_year place.development_year
+
 -- ---- The sentence of a question at its place, and where the text has what is wrong
 
 -- Question 5 asks every payment before the first adjustment.
@@ -103,18 +110,19 @@ unfoldable pub observed_sentence : ℤ → ℤ → Found → List ℕ
 observed_sentence i k found =
     cond found.opening (opening_sentence i k found.outstanding) (outstanding_sentence i k found.outstanding)
 
-unfoldable pub sentence : ℕ → ℤ → ℤ → Lent → Found → List ℕ
-sentence question i k lent found =
-    cond (eqb question 1) (years_sentence lent.years)
-    (cond (eqb question 2) (cut_sentence lent.cut lent.years)
-    (cond (eqb question 3) (lengths_sentence lent)
+-- t is the triangle that was lent.
+unfoldable pub sentence : ℕ → ℤ → ℤ → Triangle → Option Place → Found → List ℕ
+sentence question i k t asked found =
+    cond (eqb question 1) (years_sentence t.years)
+    (cond (eqb question 2) (cut_sentence t.cut t.years)
+    (cond (eqb question 3) (lengths_sentence t)
     (cond (eqb question 4) (weight_sentence i k found.weight)
     (cond (eqb question 5) (amounts_sentence i k found)
     (cond (eqb question 6) (observed_sentence i k found)
     (cond (eqb question 7) (weight_not_0_sentence i k found.weight)
     (cond (eqb question 8) (exposure_sentence k)
     (cond (eqb question 9) (projected_sentence i k)
-    (seen_cell_sentence lent.accident_year lent.development_year)))))))))
+    (asked_sentence asked)))))))))
 
 abbrev pub amounts_in_text : Bool → InText
 amounts_in_text true = AdjustmentsRow

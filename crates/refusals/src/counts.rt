@@ -1,17 +1,21 @@
 // Years as counts.
 ghost use Rattle.std.specs.Prelude.{◌≡◌, ◌≤◌};
 ghost use Rattle.method.specs.Limits.{most_accident_years};
-ghost use Rattle.refusals.specs.Counts.{count_of};
+ghost use Rattle.refusals.specs.Counts.{count_of, count_or_0};
 
-use verdicts::limits::{MOST_YEARS, from_to};
+use verdicts::limits::ACCIDENT_YEARS;
 
 // A number of years, or 0 where no triangle has as many.
 pub fn count_of(years: i64) -> usize
     ensures { (result ≡ count_of years) × (result ≤ most_accident_years) }
 {
-    if from_to(0, MOST_YEARS, years) {
-        years as usize
-    } else {
-        0
-    }
+    let count = count_or_0(years);
+    if count <= ACCIDENT_YEARS { count } else { 0 }
+}
+
+// A number as a count, or 0 where it is below 0.
+pub(crate) fn count_or_0(number: i64) -> usize
+    ensures { result ≡ count_or_0 number }
+{
+    usize::try_from(number).unwrap_or(0)
 }

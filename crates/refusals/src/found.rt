@@ -1,28 +1,18 @@
-// What was lent, and what stands at the place of a refusal: the numbers that its sentence speaks of.
+// What stands at the place of a refusal: the numbers that its sentence speaks of.
 ghost use Rattle.std.specs.Prelude.{◌≡◌, ◌≤◌};
 ghost use Rattle.method.specs.Limits.{most_accident_years};
 ghost use Rattle.method.specs.Tests.{amount_right};
-ghost use Rattle.refusals.specs.Found.{CellIn, OutstandingIn, FoundAt, in_square};
+ghost use Rattle.refusals.specs.Counts.{count_of, count_or_0};
+ghost use Rattle.refusals.specs.Found.{CellIn, OutstandingIn, FoundAt};
 
-use completed::outstanding::outstanding_at;
-use completed::places::cell_at;
-use printed::counts::less;
+use crate::counts::{count_of, count_or_0};
+use completed::outstanding::ObservedLists;
+use completed::square::cell_of;
+use lent::Triangle;
 use verdicts::limits::{GREATEST_AMOUNT, from_to};
+use verdicts::verdict::Place;
 
-// What was lent: the number of accident years, the cut, the years of the cell that is asked for, and the lengths of the lists.
-#[derive(Clone, Copy)]
-pub struct Lent {
-    pub years: i64,
-    pub cut: i64,
-    pub accident_year: i64,
-    pub development_year: i64,
-    pub payments: usize,
-    pub adjustments: usize,
-    pub weights: usize,
-    pub openings: usize,
-}
-
-// What stands at a place.
+// What stands at a place. The flags stand beside the numbers, and no enum holds one of them: each number is promised, whichever a sentence takes.
 #[derive(Clone, Copy)]
 pub struct Found {
     pub weight: i64,
@@ -34,26 +24,27 @@ pub struct Found {
     pub opening: bool,
 }
 
-// What stands at accident year i and development year k; zeros where it is no cell.
-pub fn found_at<'a>(
-    n: usize,
-    cut: usize,
-    payments: &'a [i64],
-    adjustments: &'a [i64],
-    weights: &'a [i64],
-    openings: &'a [i64],
-    i: usize,
-    k: usize,
-) -> Found
-    requires { (n ≤ most_accident_years) × (i ≤ most_accident_years) × (k ≤ most_accident_years) }
-    ensures { FoundAt n cut payments.now adjustments.now weights.now openings.now i k result }
+// What stands at a place of a triangle; zeros where it is no cell.
+pub fn found_at(triangle: Triangle<'_>, place: Place) -> Found
+    ensures { FoundAt (count_of triangle.entry.years) (count_or_0 triangle.entry.cut)
+        triangle.entry.payments.now triangle.entry.adjustments.now triangle.entry.weights.now triangle.entry.openings.now
+        (count_of place.accident_year) (count_of place.development_year) result }
 {
-    let payment = cell_in(n, payments, i, k);
+    let n = count_of(triangle.years);
+    let cut = count_or_0(triangle.cut);
+    let i = count_of(place.accident_year);
+    let k = count_of(place.development_year);
+    let lists = ObservedLists {
+        payments: triangle.payments,
+        adjustments: triangle.adjustments,
+        openings: triangle.openings,
+    };
+    let payment = cell_in(n, triangle.payments, i, k);
     Found {
-        weight: cell_in(less(n, 1), weights, i, k),
-        payment: payment,
-        adjustment: cell_in(n, adjustments, i, k),
-        outstanding: outstanding_in(n, payments, adjustments, openings, i, k),
+        weight: cell_in(n.saturating_sub(1), triangle.weights, i, k),
+        payment,
+        adjustment: cell_in(n, triangle.adjustments, i, k),
+        outstanding: outstanding_in(n, lists, i, k),
         payment_right: amount_right(cut, i, k, payment),
         opening: i + k == cut,
     }
@@ -64,33 +55,18 @@ fn cell_in(n: usize, list: &[i64], i: usize, k: usize) -> i64
     requires { n ≤ most_accident_years }
     ensures { CellIn n list.now i k result }
 {
-    if in_square(n, i, k) {
-        return cell_at(n, list, i, k);
-    }
-    0
+    cell_of(n, i, k).map_or(0, |cell| cell.number_in(list))
 }
 
-fn outstanding_in<'a>(
-    n: usize,
-    payments: &'a [i64],
-    adjustments: &'a [i64],
-    openings: &'a [i64],
-    i: usize,
-    k: usize,
-) -> i64
+// A match: as map_or with a closure, the proof of the outstanding's contract did not close, since the cell's years stand in a record there.
+fn outstanding_in(n: usize, lists: ObservedLists<'_>, i: usize, k: usize) -> i64
     requires { n ≤ most_accident_years }
-    ensures { OutstandingIn n payments.now adjustments.now openings.now i k result }
+    ensures { OutstandingIn n lists.entry.payments.now lists.entry.adjustments.now lists.entry.openings.now i k result }
 {
-    if in_square(n, i, k) {
-        return outstanding_at(n, payments, adjustments, openings, i, k);
+    match cell_of(n, i, k) {
+        Some(cell) => lists.outstanding_at(cell),
+        None => 0,
     }
-    0
-}
-
-fn in_square(n: usize, i: usize, k: usize) -> bool
-    ensures { result ≡ in_square n i k }
-{
-    (1 <= i) & (i <= n) & (1 <= k) & (k <= n)
 }
 
 // Whether question 5 accepts an amount at cell (i, k).

@@ -1,48 +1,72 @@
 // What is printed of a refusal by a question: its number and its place, what is wrong there, and where the text has it.
 ghost use Rattle.std.specs.Prelude.{◌≡◌};
+ghost use Rattle.lent.specs.Triangles.{triangle_of};
+ghost use Rattle.verdicts.specs.Verdicts.{number_of};
 ghost use Rattle.printed.specs.Line.{LineIs};
 ghost use Rattle.refusals.specs.Sentences as meaning;
 
-use crate::found::{Found, Lent};
+use crate::found::Found;
 use crate::sentences::{
-    amount_sentence, cut_sentence, exposure_sentence, lengths_sentence, opening_sentence,
-    outstanding_sentence, projected_sentence, seen_cell_sentence, weight_not_0_sentence,
-    weight_sentence, years_sentence,
+    amount_sentence, cut_sentence, exposure_sentence, lengths_sentence, outstanding_sentence,
+    seen_cell_sentence,
 };
+use lent::Triangle;
 use printed::counts::signed;
-use printed::filling::{filled_1, filled_2, filled_3};
+use printed::filling::filled;
 use printed::line::Line;
-use verdicts::verdict::Place;
+use verdicts::verdict::{Place, Question, Refusal};
 
 // The first line: the question and its place.
-pub fn refused_line(question: u8, place: Place) -> Line
-    ensures { LineIs (meaning.refused_line question place.accident_year place.development_year) result }
+pub fn refused_line(refusal: Refusal) -> Line
+    ensures { LineIs (meaning.refused_line (number_of refusal.question) refusal.place.accident_year refusal.place.development_year) result }
 {
-    filled_3(
+    let place = refusal.place;
+    let number = i64::from(refusal.question.number());
+    filled(
         b"refused by question @ at (@, @)",
-        question as i64,
-        place.accident_year,
-        place.development_year,
+        &[number, place.accident_year, place.development_year],
     )
 }
 
-// The second line: what is wrong.
-pub fn sentence(question: u8, place: Place, lent: Lent, found: Found) -> Line
-    ensures { LineIs (meaning.sentence question place.accident_year place.development_year lent found) result }
+// The second line: what is wrong. The cell that is asked for is one that question 10 refuses.
+pub fn sentence(
+    refusal: Refusal,
+    triangle: Triangle<'_>,
+    asked: Option<Place>,
+    found: Found,
+) -> Line
+    ensures { LineIs (meaning.sentence (number_of refusal.question) refusal.place.accident_year refusal.place.development_year (triangle_of triangle.entry) asked found) result }
 {
-    let i = place.accident_year;
-    let k = place.development_year;
-    match question {
-        1 => years_sentence(lent.years),
-        2 => cut_sentence(lent.cut, lent.years),
-        3 => lengths_sentence(lent),
-        4 => weight_sentence(i, k, found.weight),
-        5 => amounts_sentence(i, k, found),
-        6 => observed_sentence(i, k, found),
-        7 => weight_not_0_sentence(i, k, found.weight),
-        8 => exposure_sentence(k),
-        9 => projected_sentence(i, k),
-        _ => seen_cell_sentence(lent.accident_year, lent.development_year),
+    let i = refusal.place.accident_year;
+    let k = refusal.place.development_year;
+    let weight = [i, k, found.weight];
+    match refusal.question {
+        Question::Years => filled(
+            b"The number of accident years is @ and not from 2 to 32: it is the number of rows of payments.",
+            &[triangle.years],
+        ),
+        Question::Cut => cut_sentence(triangle.cut, triangle.years),
+        Question::Lengths => lengths_sentence(triangle),
+        Question::WeightInRange => filled(
+            b"The weight of accident year @ in development year @ is @ and not from 0 to 100.",
+            &weight,
+        ),
+        Question::AmountRight => amounts_sentence(i, k, found),
+        Question::OutstandingInRange => observed_sentence(i, k, found),
+        Question::WeightAllowed => filled(
+            b"The weight of accident year @ in development year @ is @ and not 0, though its years add up to no more than the cut.",
+            &weight,
+        ),
+        Question::Exposure => exposure_sentence(k),
+        Question::ProjectedFigure => filled(
+            b"The payment, adjustment or outstanding projected for accident year @ in development year @ is above 10,000,000,000 units in size.",
+            &[i, k],
+        ),
+        // Questions 11 to 13 are asked of a workbook only.
+        Question::YearsAsked
+        | Question::KindKnown
+        | Question::NumberWhole
+        | Question::BlankWhereMissing => seen_cell_sentence(asked),
     }
 }
 
@@ -72,12 +96,15 @@ fn observed_sentence(i: i64, k: i64, found: Found) -> Line
     ensures { LineIs (meaning.observed_sentence i k found) result }
 {
     if found.opening {
-        return opening_sentence(i, k, found.outstanding);
+        return filled(
+            b"The opening outstanding of accident year @, at the end of development year @, is @ and not from 0 to 1,000,000,000.",
+            &[i, k, found.outstanding],
+        );
     }
     outstanding_sentence(i, k, found.outstanding)
 }
 
-// Where the text has what is wrong.
+// Where the text has what is wrong. An Option of the other five would be matched in two steps, and say no more.
 #[derive(Clone, Copy)]
 pub enum InText {
     Nowhere,
@@ -88,15 +115,22 @@ pub enum InText {
     OpeningsHeading,
 }
 
-pub fn in_text(question: u8, found: Found) -> InText
-    ensures { result ≡ meaning.in_text question found }
+pub fn in_text(question: Question, found: Found) -> InText
+    ensures { result ≡ meaning.in_text (number_of question) found }
 {
     match question {
-        4 => InText::WeightsRow,
-        5 => amounts_in_text(found.payment_right),
-        6 => observed_in_text(found.opening),
-        7 => InText::WeightsRow,
-        _ => InText::Nowhere,
+        Question::WeightInRange | Question::WeightAllowed => InText::WeightsRow,
+        Question::AmountRight => amounts_in_text(found.payment_right),
+        Question::OutstandingInRange => observed_in_text(found.opening),
+        Question::Years
+        | Question::Cut
+        | Question::Lengths
+        | Question::Exposure
+        | Question::ProjectedFigure
+        | Question::YearsAsked
+        | Question::KindKnown
+        | Question::NumberWhole
+        | Question::BlankWhereMissing => InText::Nowhere,
     }
 }
 
@@ -124,11 +158,11 @@ fn observed_in_text(opening: bool) -> InText
 pub fn see_line(line: usize) -> Line
     ensures { LineIs (meaning.see_line line) result }
 {
-    filled_1(b"See line @.", signed(line))
+    filled(b"See line @.", &[signed(line)])
 }
 
 pub fn see_lines(first: usize, second: usize) -> Line
     ensures { LineIs (meaning.see_lines first second) result }
 {
-    filled_2(b"See lines @ and @.", signed(first), signed(second))
+    filled(b"See lines @ and @.", &[signed(first), signed(second)])
 }

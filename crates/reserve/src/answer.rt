@@ -2,20 +2,19 @@
 ghost use Rattle.std.specs.Prelude.{◌≤◌, length};
 ghost use Rattle.text.specs.Bytes.{longest_text};
 
-use crate::call::call;
+use crate::call::{ReadText, call};
 use crate::fault::print_fault;
 use crate::printing::{print_line, print_two};
-use blocks::faults::Fault;
-use printed::line::line_of;
+use lent::Triangle;
+use printed::line::Line;
 use std::io;
-use text::search::{Sought, find};
-use triangle_text::reading::{Asked, SEEN_CELLS, WEIGHTED_CELLS, read_text};
+use triangle_text::reading::{SEEN_CELLS, WEIGHTED_CELLS, read_text};
 use verdicts::limits::ACCIDENT_YEARS;
 
 pub(crate) fn answer(rt: &impl Print, text: &[u8]) -> io::Result<()>
     requires { length text.now ≤ longest_text }
 {
-    if text.len() == 0 {
+    if text.is_empty() {
         return print_empty(rt);
     }
     if is_no_text(text) {
@@ -30,51 +29,39 @@ pub(crate) fn answer(rt: &impl Print, text: &[u8]) -> io::Result<()>
 fn print_empty(rt: &impl Print) -> io::Result<()> {
     print_line(
         rt,
-        line_of(b"refused: expected a text, and met nothing: the file or the input is empty"),
+        Line::of(b"refused: expected a text, and met nothing: the file or the input is empty"),
     )
 }
 
 fn print_no_text(rt: &impl Print) -> io::Result<()> {
     print_two(
         rt,
-        line_of(b"refused: expected a text in UTF-8, and met UTF-16 or no text"),
-        line_of(b"Save it as CSV in UTF-8."),
+        Line::of(b"refused: expected a text in UTF-8, and met UTF-16 or no text"),
+        Line::of(b"Save it as CSV in UTF-8."),
     )
 }
 
 fn print_returns_only(rt: &impl Print) -> io::Result<()> {
     print_two(
         rt,
-        line_of(
+        Line::of(
             b"refused: expected lines that end with a line feed, and met carriage returns only",
         ),
-        line_of(b"Save it as CSV with the line ends of Windows or Linux."),
+        Line::of(b"Save it as CSV with the line ends of Windows or Linux."),
     )
 }
 
 // Whether a text has a carriage return and no line feed.
 fn has_returns_only(text: &[u8]) -> bool {
-    let line_feed = find(text, Sought::Byte(b'\n'));
-    let carriage_return = find(text, Sought::Byte(b'\r'));
-    (line_feed == text.len()) & (carriage_return < text.len())
+    text.contains(&b'\r') & !text.contains(&b'\n')
 }
 
 // Whether the first two bytes are those of UTF-16, or one of them is 0.
 fn is_no_text(text: &[u8]) -> bool {
-    if text.len() == 0 {
-        return false;
-    }
-    let first = text[0];
-    if text.len() == 1 {
-        return first == 0;
-    }
-    let second = text[1];
-    (first == 0)
-        | (second == 0)
-        | ((first == 255) & (second == 254))
-        | ((first == 254) & (second == 255))
+    matches!(text, [0, ..] | [_, 0, ..] | [255, 254, ..] | [254, 255, ..])
 }
 
+// A text that was read is answered by a call, or by its first fault.
 fn answer_text(rt: &impl Print, text: &[u8]) -> io::Result<()>
     requires { length text.now ≤ longest_text }
 {
@@ -89,37 +76,25 @@ fn answer_text(rt: &impl Print, text: &[u8]) -> io::Result<()>
         &mut weights,
         &mut openings,
     );
-    let asked = read.asked;
-    let fault = read.fault;
-    let payments_end = read.payments;
-    let adjustments_end = read.adjustments;
-    let weights_end = read.weights;
-    let openings_end = read.openings;
-    answer_read(
-        rt,
-        text,
-        asked,
-        fault,
-        &payments[0..payments_end],
-        &adjustments[0..adjustments_end],
-        &weights[0..weights_end],
-        &openings[0..openings_end],
-    )
-}
-
-// A text that was read is answered by a call, or by its first fault.
-fn answer_read<'a>(
-    rt: &impl Print,
-    text: &'a [u8],
-    asked: Asked,
-    fault: Fault,
-    payments: &'a [i64],
-    adjustments: &'a [i64],
-    weights: &'a [i64],
-    openings: &'a [i64],
-) -> io::Result<()> {
-    match fault {
-        Fault::Nothing => call(rt, text, asked, payments, adjustments, weights, openings),
-        Fault::At(line, cell, expected) => print_fault(rt, text, line, cell, expected),
+    match read {
+        Ok(read) => {
+            let triangle = Triangle {
+                years: read.asked.years,
+                cut: read.asked.cut,
+                payments: &payments[..read.payments],
+                adjustments: &adjustments[..read.adjustments],
+                weights: &weights[..read.weights],
+                openings: &openings[..read.openings],
+            };
+            call(
+                rt,
+                ReadText {
+                    text,
+                    asked: read.asked,
+                    triangle,
+                },
+            )
+        }
+        Err(fault) => print_fault(rt, text, fault),
     }
 }

@@ -6,7 +6,9 @@ use crate::printing::{print_empty_line, print_line, print_two};
 use crate::refused::print_refusal;
 use crate::tables_of_answer::print_tables;
 use calls::reserve::reserve;
-use printed::counts::less;
+use lent::Triangle;
+use projection::Movement;
+use ratios::Development;
 use refusals::counts::count_of;
 use single_cell::single_cell;
 use std::io;
@@ -14,80 +16,40 @@ use tables::accepted::{
     accepted_line, adjustments_line, openings_line, payments_line, weights_line,
 };
 use tables::one_cell::{CellFigure, cell_column, cell_line, cell_title};
-use triangle_text::reading::Asked;
-use verdicts::verdict::Verdict;
+use triangle::reading::read;
+use triangle_text::reading::{Asked, CellAsked};
+use verdicts::verdict::Refusal;
 
-pub(crate) fn call<'a>(
-    rt: &impl Print,
-    text: &'a [u8],
-    asked: Asked,
-    payments: &'a [i64],
-    adjustments: &'a [i64],
-    weights: &'a [i64],
-    openings: &'a [i64],
-) -> io::Result<()> {
-    if asked.one_cell {
-        call_cell(rt, text, asked, payments, adjustments, weights, openings)
-    } else {
-        call_reserve(rt, text, asked, payments, adjustments, weights, openings)
+// A text, what it asks for, and the triangle that was read from it.
+#[derive(Clone, Copy)]
+pub(crate) struct ReadText<'t, 'l> {
+    pub(crate) text: &'t [u8],
+    pub(crate) asked: Asked,
+    pub(crate) triangle: Triangle<'l>,
+}
+
+pub(crate) fn call(rt: &impl Print, read: ReadText<'_, '_>) -> io::Result<()> {
+    match read.asked.cell {
+        Some(cell) => call_cell(rt, read, cell),
+        None => call_reserve(rt, read),
     }
 }
 
-fn call_cell<'a>(
-    rt: &impl Print,
-    text: &'a [u8],
-    asked: Asked,
-    payments: &'a [i64],
-    adjustments: &'a [i64],
-    weights: &'a [i64],
-    openings: &'a [i64],
-) -> io::Result<()> {
-    let cell = single_cell(
-        asked.years,
-        asked.cut,
-        payments,
-        adjustments,
-        weights,
-        openings,
-        asked.accident_year,
-        asked.development_year,
-    );
-    let verdict = cell.verdict;
-    match verdict {
-        Verdict::Accepted => {
-            print_cell(
-                rt,
-                asked,
-                cell.payment.0,
-                cell.adjustment.0,
-                cell.outstanding.0,
-            )
-        }
-        Verdict::Refused(question, place) => print_refusal(
-            rt,
-            text,
-            asked,
-            payments,
-            adjustments,
-            weights,
-            openings,
-            question,
-            place,
-        ),
+fn call_cell(rt: &impl Print, read: ReadText<'_, '_>, cell: CellAsked) -> io::Result<()> {
+    match single_cell(read.triangle, cell.accident_year, cell.development_year) {
+        Ok(figures) => print_cell(rt, read.asked, cell, figures),
+        Err(refusal) => print_refusal(rt, read, refusal),
     }
 }
 
-fn print_cell(
-    rt: &impl Print,
-    asked: Asked,
-    payment: i64,
-    adjustment: i64,
-    outstanding: i64,
-) -> io::Result<()> {
+fn print_cell(rt: &impl Print, asked: Asked, cell: CellAsked, figures: Movement) -> io::Result<()> {
+    let payment = figures.payment.0;
+    let adjustment = figures.adjustment.0;
+    let outstanding = figures.outstanding.0;
     print_accepted(rt, asked)?;
     print_empty_line(rt)?;
     let column = cell_column(payment, adjustment, outstanding);
-    let title = cell_title(asked.accident_year, asked.development_year);
+    let title = cell_title(cell.accident_year, cell.development_year);
     print_two(rt, title, cell_line(CellFigure::Payment, payment, column))?;
     print_two(
         rt,
@@ -121,81 +83,29 @@ const FUTURE_FIGURES: usize = 1584;
 const RESERVE_FIGURES: usize = 96;
 
 // Makes the two answer lists, of the lengths that an accepted call wants.
-fn call_reserve<'a>(
-    rt: &impl Print,
-    text: &'a [u8],
-    asked: Asked,
-    payments: &'a [i64],
-    adjustments: &'a [i64],
-    weights: &'a [i64],
-    openings: &'a [i64],
-) -> io::Result<()> {
+fn call_reserve(rt: &impl Print, read: ReadText<'_, '_>) -> io::Result<()> {
     let mut future = [0; FUTURE_FIGURES];
     let mut reserves = [0; RESERVE_FIGURES];
-    let n = count_of(asked.years);
-    let future_end = future_length(n);
-    let reserves_end = 3 * n;
-    with_answer_lists(
-        rt,
-        text,
-        asked,
-        payments,
-        adjustments,
-        weights,
-        openings,
-        &mut future[0..future_end],
-        &mut reserves[0..reserves_end],
-    )
+    let n = count_of(read.asked.years);
+    let future = &mut future[..future_length(n)];
+    let reserves = &mut reserves[..3 * n];
+    match answered(read.triangle, future, reserves) {
+        Ok(development) => {
+            print_accepted(rt, read.asked)?;
+            print_tables(rt, read.triangle, development, future, reserves)
+        }
+        Err(refusal) => print_refusal(rt, read, refusal),
+    }
 }
 
-fn with_answer_lists<'a>(
-    rt: &impl Print,
-    text: &'a [u8],
-    asked: Asked,
-    payments: &'a [i64],
-    adjustments: &'a [i64],
-    weights: &'a [i64],
-    openings: &'a [i64],
+// Fills the answer lists; the development of a triangle that is accepted is printed too.
+fn answered(
+    triangle: Triangle<'_>,
     future: &mut [i64],
     reserves: &mut [i64],
-) -> io::Result<()> {
-    let verdict = reserve(
-        asked.years,
-        asked.cut,
-        payments,
-        adjustments,
-        weights,
-        openings,
-        future,
-        reserves,
-    );
-    match verdict {
-        Verdict::Accepted => {
-            print_accepted(rt, asked)?;
-            print_tables(
-                rt,
-                asked.years,
-                asked.cut,
-                payments,
-                adjustments,
-                weights,
-                openings,
-                future,
-                reserves,
-            )
-        }
-        Verdict::Refused(question, place) => print_refusal(
-            rt,
-            text,
-            asked,
-            payments,
-            adjustments,
-            weights,
-            openings,
-            question,
-            place,
-        ),
-    }
+) -> Result<Development, Refusal> {
+    reserve(triangle, future, reserves)?;
+    read(triangle, None)
 }
 
 // Three figures for each unseen cell.
@@ -203,5 +113,5 @@ fn future_length(n: usize) -> usize
     requires { n ≤ most_accident_years }
     ensures { result ≤ 1584 }
 {
-    3 * (n * less(n, 1) / 2)
+    3 * (n * n.saturating_sub(1) / 2)
 }

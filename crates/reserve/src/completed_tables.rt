@@ -3,124 +3,52 @@ ghost use Rattle.std.specs.Prelude.{◌≤◌};
 ghost use Rattle.method.specs.Limits.{most_accident_years};
 
 use crate::printing::{print_empty_line, print_line};
+use completed::shown::CompletedLists;
 use completed_table::completed_rows::{
-    Table, completed_column, completed_row, last_in_part, table_title, years_heading,
+    CompletedTable, Table, last_in_part, table_title, years_heading,
 };
 use std::io;
 
-pub(crate) fn print_completed<'a>(
+pub(crate) fn print_completed(
     rt: &impl Print,
     n: usize,
-    cut: usize,
-    payments: &'a [i64],
-    adjustments: &'a [i64],
-    openings: &'a [i64],
-    future: &'a [i64],
+    lists: CompletedLists<'_>,
 ) -> io::Result<()>
-    requires { (n ≤ most_accident_years) × (cut ≤ most_accident_years) }
+    requires { n ≤ most_accident_years }
 {
-    print_table(
-        rt,
-        Table::Payments,
-        n,
-        cut,
-        payments,
-        adjustments,
-        openings,
-        future,
-    )?;
-    print_table(
-        rt,
-        Table::Adjustments,
-        n,
-        cut,
-        payments,
-        adjustments,
-        openings,
-        future,
-    )?;
-    print_table(
-        rt,
-        Table::Outstandings,
-        n,
-        cut,
-        payments,
-        adjustments,
-        openings,
-        future,
-    )
+    for table in [Table::Payments, Table::Adjustments, Table::Outstandings] {
+        print_table(rt, CompletedTable { table, n, lists })?;
+    }
+    Ok(())
 }
 
-fn print_table<'a>(
-    rt: &impl Print,
-    table: Table,
-    n: usize,
-    cut: usize,
-    payments: &'a [i64],
-    adjustments: &'a [i64],
-    openings: &'a [i64],
-    future: &'a [i64],
-) -> io::Result<()>
-    requires { (n ≤ most_accident_years) × (cut ≤ most_accident_years) }
-{
-    let column = completed_column(table, n, cut, payments, adjustments, openings, future);
+fn print_table(rt: &impl Print, table: CompletedTable<'_>) -> io::Result<()> {
+    let column = table.column();
     print_empty_line(rt)?;
-    print_line(rt, table_title(table))?;
+    print_line(rt, table_title(table.table))?;
+    // Each turn prints a part, of as many years as have room, and counts nothing by one.
     let mut before = 0;
-    while before < n {
-        let last = last_in_part(n, before, column);
-        print_part(
-            rt,
-            table,
-            n,
-            cut,
-            payments,
-            adjustments,
-            openings,
-            future,
-            before,
-            last,
-            column,
-        )?;
+    while before < table.n {
+        let last = last_in_part(table.n, before, column);
+        print_part(rt, table, before, last, column)?;
         before = last;
     }
     Ok(())
 }
 
 // A part, with an empty line before it unless it is the first.
-fn print_part<'a>(
+fn print_part(
     rt: &impl Print,
-    table: Table,
-    n: usize,
-    cut: usize,
-    payments: &'a [i64],
-    adjustments: &'a [i64],
-    openings: &'a [i64],
-    future: &'a [i64],
+    table: CompletedTable<'_>,
     before: usize,
     last: usize,
     column: usize,
 ) -> io::Result<()>
-    requires { (n ≤ most_accident_years) × (cut ≤ most_accident_years) × (last ≤ n) }
+    requires { last ≤ table.n }
 {
     print_years(rt, before, last, column)?;
-    let mut i = 0;
-    while i < n {
-        i += 1;
-        let row = completed_row(
-            table,
-            n,
-            cut,
-            payments,
-            adjustments,
-            openings,
-            future,
-            i,
-            before,
-            last,
-            column,
-        );
-        print_line(rt, row)?;
+    for i in 1..table.n + 1 {
+        print_line(rt, table.row(i, before, last, column))?;
     }
     Ok(())
 }

@@ -10,7 +10,7 @@ mod printing;
 mod refused;
 mod tables_of_answer;
 
-use printed::line::line_of;
+use printed::line::Line;
 use printing::print_line;
 use std::env::{Env, FillError};
 use std::fs::File;
@@ -75,7 +75,7 @@ fn print_answer(rt: &impl Print, text: &[u8]) -> io::Result<()> {
     if text.len() > LONGEST_TEXT {
         return print_line(
             rt,
-            line_of(b"refused: expected a text of at most 65,536 bytes"),
+            Line::of(b"refused: expected a text of at most 65,536 bytes"),
         );
     }
     answer::answer(rt, text)

@@ -1,17 +1,10 @@
 // Lines that are printed. Each function answers whether its lines were written, and prints nothing after the first that was not.
-use printed::counts::less;
-use printed::line::{Line, with_byte};
+use printed::line::{Line, ROOM};
 use std::io;
 
 pub(crate) fn print_line(rt: &impl Print, line: Line) -> io::Result<()> {
-    let ended = with_byte(line, b'\n');
-    let bytes = ended.bytes;
-    print_first(rt, &bytes, ended.length)
-}
-
-fn print_first(rt: &impl Print, bytes: &[u8], length: usize) -> io::Result<()> {
-    let end = less(bytes.len(), less(bytes.len(), length));
-    rt.write_all(&bytes[0..end])
+    let ended = line.with_byte(b'\n');
+    rt.write_all(&ended.bytes[..ended.length.min(ROOM)])
 }
 
 pub(crate) fn print_empty_line(rt: &impl Print) -> io::Result<()> {

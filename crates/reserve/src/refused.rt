@@ -1,99 +1,64 @@
 // What is printed of a refusal by a question.
+use crate::call::ReadText;
 use crate::printing::{print_line, print_two};
 use headings::places::{find_heading, row_line};
 use line_kinds::kinds::LineKind;
-use line_parts::cells::separator_of;
+use line_parts::cells::Text;
 use refusals::counts::count_of;
-use refusals::found::{Found, Lent, found_at};
+use refusals::found::found_at;
 use refusals::lines::{InText, in_text, refused_line, see_line, see_lines, sentence};
 use std::io;
-use triangle_text::reading::{Asked, without_mark};
-use verdicts::verdict::Place;
+use triangle_text::reading::without_mark;
+use verdicts::verdict::{Place, Refusal};
 
-pub(crate) fn print_refusal<'a>(
+pub(crate) fn print_refusal(
     rt: &impl Print,
-    text: &'a [u8],
-    asked: Asked,
-    payments: &'a [i64],
-    adjustments: &'a [i64],
-    weights: &'a [i64],
-    openings: &'a [i64],
-    question: u8,
-    place: Place,
+    read: ReadText<'_, '_>,
+    refusal: Refusal,
 ) -> io::Result<()> {
-    let lent = Lent {
-        years: asked.years,
-        cut: asked.cut,
-        accident_year: asked.accident_year,
-        development_year: asked.development_year,
-        payments: payments.len(),
-        adjustments: adjustments.len(),
-        weights: weights.len(),
-        openings: openings.len(),
-    };
-    let found = found_at(
-        count_of(asked.years),
-        count_of(asked.cut),
-        payments,
-        adjustments,
-        weights,
-        openings,
-        count_of(place.accident_year),
-        count_of(place.development_year),
-    );
-    print_sentence(rt, text, question, place, lent, found)
-}
-
-fn print_sentence(
-    rt: &impl Print,
-    bytes: &[u8],
-    question: u8,
-    place: Place,
-    lent: Lent,
-    found: Found,
-) -> io::Result<()> {
+    let found = found_at(read.triangle, refusal.place);
+    let asked = read.asked.cell.map(|cell| Place {
+        accident_year: cell.accident_year,
+        development_year: cell.development_year,
+    });
     print_two(
         rt,
-        refused_line(question, place),
-        sentence(question, place, lent, found),
+        refused_line(refusal),
+        sentence(refusal, read.triangle, asked, found),
     )?;
     print_where(
         rt,
-        without_mark(bytes),
-        in_text(question, found),
-        count_of(place.accident_year),
+        Text::new(without_mark(read.text)),
+        in_text(refusal.question, found),
+        count_of(refusal.place.accident_year),
     )
 }
 
 // Where the text has it: row i of a block, or a heading.
-fn print_where(rt: &impl Print, text: &[u8], wrong: InText, i: usize) -> io::Result<()> {
-    let separator = separator_of(text);
+fn print_where(rt: &impl Print, text: Text<'_>, wrong: InText, i: usize) -> io::Result<()> {
     match wrong {
         InText::Nowhere => Ok(()),
-        InText::PaymentsRow => print_see(rt, row_line(text, separator, LineKind::Payments, i)),
-        InText::AdjustmentsRow => print_see(
-            rt,
-            row_line(text, separator, LineKind::Adjustments, i),
-        ),
-        InText::WeightsRow => print_see(rt, row_line(text, separator, LineKind::Weights, i)),
+        InText::PaymentsRow => print_see(rt, row_line(text, LineKind::Payments, i)),
+        InText::AdjustmentsRow => print_see(rt, row_line(text, LineKind::Adjustments, i)),
+        InText::WeightsRow => print_see(rt, row_line(text, LineKind::Weights, i)),
         InText::OpeningsHeading => {
-            let heading = find_heading(text, separator, LineKind::Openings);
-            print_see(rt, heading.line)
+            let heading = find_heading(text, LineKind::Openings);
+            print_see(rt, heading.map(|heading| heading.line))
         }
         InText::BothRows => print_line(
             rt,
             see_lines(
-                row_line(text, separator, LineKind::Payments, i),
-                row_line(text, separator, LineKind::Adjustments, i),
+                row_line(text, LineKind::Payments, i).unwrap_or(0),
+                row_line(text, LineKind::Adjustments, i).unwrap_or(0),
             ),
         ),
     }
 }
 
 // A line that the text does not have is not named.
-fn print_see(rt: &impl Print, line: usize) -> io::Result<()> {
-    if line == 0 {
-        return Ok(());
+fn print_see(rt: &impl Print, line: Option<usize>) -> io::Result<()> {
+    match line {
+        Some(line) => print_line(rt, see_line(line)),
+        None => Ok(()),
     }
-    print_line(rt, see_line(line))
 }

@@ -4,71 +4,54 @@ ghost use Rattle.method.specs.Limits.{most_accident_years};
 
 use crate::completed_tables::print_completed;
 use crate::printing::{print_empty_line, print_line, print_two};
-use list_lengths::AnswerLists;
-use ratios::Sums;
+use completed::outstanding::ObservedLists;
+use completed::shown::CompletedLists;
+use lent::Triangle;
+use ratios::{Development, Sums};
 use refusals::counts::count_of;
-use reserve_table::reserve_rows::{
-    reserves_column, reserves_heading, reserves_row, reserves_title, totals_row,
-};
+use reserve_table::reserve_rows::{ReserveTable, reserves_heading, reserves_title};
 use std::io;
 use tables::sums_rows::{sums_column, sums_heading, sums_row, sums_title};
-use triangle::reading::read;
-use verdicts::limits::{ACCIDENT_YEARS, DEVELOPMENT_YEARS};
+use verdicts::limits::DEVELOPMENT_YEARS;
 
 pub(crate) fn print_tables<'a>(
     rt: &impl Print,
-    years: i64,
-    cut: i64,
-    payments: &'a [i64],
-    adjustments: &'a [i64],
-    weights: &'a [i64],
-    openings: &'a [i64],
+    triangle: Triangle<'a>,
+    development: Development,
     future: &'a [i64],
     reserves: &'a [i64],
 ) -> io::Result<()> {
-    let reading = read(
-        years,
-        cut,
-        payments,
-        adjustments,
-        weights,
-        openings,
-        AnswerLists::NotGiven,
-    );
-    let development = reading.development;
+    let n = count_of(triangle.years);
     let outstandings = development.outstandings;
-    let ratios = development.ratios;
-    let n = count_of(years);
-    print_reserves(rt, n, outstandings, reserves)?;
-    print_completed(
-        rt,
-        n,
-        count_of(cut),
-        payments,
-        adjustments,
-        openings,
+    let lists = CompletedLists {
+        cut: count_of(triangle.cut),
+        observed: ObservedLists {
+            payments: triangle.payments,
+            adjustments: triangle.adjustments,
+            openings: triangle.openings,
+        },
         future,
+    };
+    print_reserves(
+        rt,
+        ReserveTable {
+            n,
+            outstandings,
+            reserves,
+        },
     )?;
-    print_sums(rt, n, ratios)
+    print_completed(rt, n, lists)?;
+    print_sums(rt, n, development.ratios)
 }
 
-fn print_reserves(
-    rt: &impl Print,
-    n: usize,
-    outstandings: [i64; ACCIDENT_YEARS],
-    reserves: &[i64],
-) -> io::Result<()>
-    requires { n ≤ most_accident_years }
-{
-    let column = reserves_column(n, outstandings, reserves);
+fn print_reserves(rt: &impl Print, table: ReserveTable<'_>) -> io::Result<()> {
+    let column = table.column();
     print_empty_line(rt)?;
     print_two(rt, reserves_title(), reserves_heading(column))?;
-    let mut i = 0;
-    while i < n {
-        i += 1;
-        print_line(rt, reserves_row(outstandings, reserves, i, column))?;
+    for i in 1..table.n + 1 {
+        print_line(rt, table.row(i, column))?;
     }
-    print_line(rt, totals_row(n, outstandings, reserves, column))
+    print_line(rt, table.totals_row(column))
 }
 
 fn print_sums(rt: &impl Print, n: usize, ratios: [Sums; DEVELOPMENT_YEARS]) -> io::Result<()>
@@ -77,10 +60,8 @@ fn print_sums(rt: &impl Print, n: usize, ratios: [Sums; DEVELOPMENT_YEARS]) -> i
     let column = sums_column(n, ratios);
     print_empty_line(rt)?;
     print_two(rt, sums_title(), sums_heading(column))?;
-    let mut k = 1;
-    while k < n {
+    for k in 1..n {
         print_line(rt, sums_row(ratios, k, column))?;
-        k += 1;
     }
     Ok(())
 }

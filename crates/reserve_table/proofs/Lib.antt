@@ -1,3 +1,3 @@
 -- The laws of totals, and the room of every line.
-pub mod Totals
+pub mod TotalsSum
 pub mod TableRoom

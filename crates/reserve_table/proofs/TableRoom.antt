@@ -6,21 +6,21 @@ use lib.IntN.{ℤ, pos}
 use lib.ListN.{length, get_or, length-append}
 use Rattle.figures.specs.Bytes.{bytes}
 use Rattle.written_figures.specs.Writing.{whole_text, amount_text}
-use Rattle.exact_sums.specs.declared.exact.Exact.{Exact}
-use Rattle.exact_sums.specs.declared.exact.Exact.TheVariants.{Of, TooLarge}
+use Rattle.std.specs.Prelude.{Option, Some, None}
 use Rattle.method.specs.AnswerPlaces.{year_figure}
 use Rattle.printed.specs.Entries.{set_right, entry, count_text}
 use Rattle.printed.proofs.Room.{number_length, amount_length, set_right_length, entry_length, count_length}
 use Rattle.printed.proofs.Widths.{widest_within}
-use Rattle.reserve_table.specs.ReserveRows.{total_text, reserves_heading, outstandings_total, reserves_total, outstandings_width, reserves_width, reserves_column, reserves_row, totals_row}
+use Rattle.reserve_table.specs.Totals.{total_text}
+use Rattle.reserve_table.specs.ReserveRows.{reserves_heading, outstandings_total, reserves_total, outstandings_width, reserves_width, reserves_column, reserves_row, totals_row}
 
-total_length : (total : Exact) → length (total_text whole_text total) ≤ 35
-total_length (Of total) = omega (arith, number_length total)
-total_length TooLarge = omega arith
+total_length : (total : Option ℤ) → length (total_text whole_text total) ≤ 35
+total_length (Some total) = omega (arith, number_length total)
+total_length None = omega arith
 
-total_amount_length : (total : Exact) → length (total_text amount_text total) ≤ 35
-total_amount_length (Of total) = amount_length total
-total_amount_length TooLarge = omega arith
+total_amount_length : (total : Option ℤ) → length (total_text amount_text total) ≤ 35
+total_amount_length (Some total) = amount_length total
+total_amount_length None = omega arith
 
 module _ (outstandings reserves : List ℤ) (n : ℕ) where
   outstandings_width_most : outstandings_width outstandings n ≤ 35

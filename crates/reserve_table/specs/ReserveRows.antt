@@ -1,12 +1,10 @@
 -- The table of reserves, line by line. docs/FORMAT.md has this table.
-use Rattle.std.specs.Prelude.{List, ◌++◌, ℕ, zero, suc, ◌-◌, max, ℤ, pos, ◌+ℤ◌, length, get_or}
+use Rattle.std.specs.Prelude.{List, ◌++◌, ℕ, ◌-◌, max, ℤ, pos, length, get_or, Option}
 use Rattle.figures.specs.Bytes.{bytes}
 use Rattle.written_figures.specs.Writing.{whole_text, amount_text}
-use Rattle.exact_sums.specs.Exact.{exact_of}
-use Rattle.exact_sums.specs.declared.exact.Exact.{Exact}
-use Rattle.exact_sums.specs.declared.exact.Exact.TheVariants.{Of, TooLarge}
 use Rattle.method.specs.AnswerPlaces.{year_figure}
 use Rattle.printed.specs.Entries.{set_right, entry, count_text, widest_from}
+use Rattle.reserve_table.specs.Totals.{total_from, total_text}
 
 abbrev pub reserves_title : List ℕ
 reserves_title = bytes "Reserves in units"
@@ -30,25 +28,12 @@ reserves_row outstandings reserves i column =
 
 -- ---- Totals
 
-abbrev pub then_on : Exact → (ℤ → Exact) → Exact
-then_on (Of total) next = next total
-then_on TooLarge next = TooLarge
-
--- A total so far with so many numbers more, from a place on; too large where 64 bits do not hold a sum on the way.
-unfoldable pub total_from : (ℕ → ℤ) → ℤ → ℕ → ℕ → Exact
-total_from number total place zero = Of total
-total_from number total place (suc left) = then_on (exact_of (total +ℤ number place)) (λ further. total_from number further (suc place) left)
-
 -- The totals of the last outstandings, and of one of the three figures of the reserve list.
-abbrev pub outstandings_total : List ℤ → ℕ → Exact
+abbrev pub outstandings_total : List ℤ → ℕ → Option ℤ
 outstandings_total outstandings n = total_from (λ place. get_or outstandings place (pos 0)) (pos 0) 0 n
 
-abbrev pub reserves_total : List ℤ → ℕ → ℕ → Exact
+abbrev pub reserves_total : List ℤ → ℕ → ℕ → Option ℤ
 reserves_total reserves figure n = total_from (λ i. year_figure reserves figure i) (pos 0) 1 n
-
-abbrev pub total_text : (ℤ → List ℕ) → Exact → List ℕ
-total_text written (Of total) = written total
-total_text written TooLarge = bytes "above 64 bits"
 
 unfoldable pub totals_row : ℕ → List ℤ → List ℤ → ℕ → List ℕ
 totals_row n outstandings reserves column =

@@ -2,3 +2,4 @@
 #![tactic(auto)]
 
 pub mod reserve_rows;
+mod totals;

@@ -1,12 +1,11 @@
 -- The state of an accident year as it is projected: before its first projected year, and with one year more.
-use Rattle.std.specs.Prelude.{List, [], ℕ, zero, suc, ◌+◌, ◌*◌, ◌-◌, ◌≤◌, ◌<◌, ℤ, pos, ◌+ℤ◌, ◌*ℤ◌, nat_abs, get_or}
+use Rattle.std.specs.Prelude.{ℕ, zero, suc, ◌+◌, ◌*◌, ◌≤◌, ◌<◌, ℤ, pos, ◌+ℤ◌, ◌*ℤ◌, nat_abs}
 use Rattle.method.specs.Limits.{one_unit, most_accident_years}
 use Rattle.share.specs.declared.millionths.Millionths.{Millionths}
 use Rattle.prepared_ratios.specs.Ratio.{greatest_size}
-use Rattle.ratios.specs.Ratios.{sums_at}
-use Rattle.prepared_years.specs.Prepared.{YearReady, year_of, ratios_of}
+use Rattle.prepared_years.specs.declared.triangle.PreparedTriangle.{PreparedTriangle}
 use Rattle.projection.specs.declared.Movement.{Movement}
-use Rattle.projection.specs.Year.{ProjectedYearInput}
+use Rattle.projection.specs.Year.{OutstandingInLimit}
 use Rattle.row_states.specs.declared.RowState.{RowState}
 
 -- no year is projected yet, and this outstanding, in whole units, was the last observed one
@@ -45,9 +44,7 @@ pub record YearAddable (s : RowState) (x : Movement) : Type 0 where
   pub incurred : FigureAddable s.incurred.0 x.adjustment.0
 
 -- the year after the projected ones of accident year i
-pub record YearToProject (n i : ℕ) (years : List (List ℕ)) (s : RowState) : Type 0 where
-  pub last : i ≤ n
-  pub most : n ≤ most_accident_years
+pub record YearToProject (t : PreparedTriangle) (i : ℕ) (s : RowState) : Type 0 where
+  pub last : i ≤ t.n
   pub more : s.projected + 1 < i
-  pub ready : YearReady (year_of (get_or years (n - i + s.projected) []))
-  pub input : ProjectedYearInput s.outstanding.0 (sums_at (ratios_of years) (n - i + (s.projected + 1)))
+  pub outstanding : OutstandingInLimit s.outstanding.0

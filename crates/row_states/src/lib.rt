@@ -1,8 +1,7 @@
 // The state of an accident year as it is projected, year by year.
 #![tactic(auto)]
 
-ghost use Rattle.std.specs.Prelude.{◌≡◌, ◌+◌, ◌-◌, ◌≤◌, pos, ◌+ℤ◌, ◌≤ℤ◌};
-ghost use Rattle.method.specs.Limits.{greatest_outstanding, most_accident_years};
+ghost use Rattle.std.specs.Prelude.{◌≡◌, ◌+◌, ◌-◌, ◌≤◌, ◌+ℤ◌};
 ghost use Rattle.method.specs.Triangle.{entry};
 ghost use Rattle.method.specs.ProjectedYear.{next_year};
 ghost use Rattle.ratios.specs.Ratios.{sums_at};
@@ -10,13 +9,12 @@ ghost use Rattle.prepared_years.specs.Prepared.{ratios_of};
 ghost use Rattle.projection.specs.Year.{year_or_too_large};
 ghost use Rattle.row_states.specs.States.{state_before, YearToProject, YearAddable, FigureAddable, with_year, first_of};
 
-use prepared_years::{NUMBERS_OF_A_YEAR, year_at};
-use projection::{Movement, ProjectedYear, next_year};
+use prepared_years::triangle::PreparedTriangle;
+use projection::{Movement, next_year};
 use share::millionths::Millionths;
-use verdicts::limits::{ACCIDENT_YEARS, DEVELOPMENT_YEARS};
 
 // An accident year after some of its projected years: how many, the outstanding at their end, its reserves up to there,
-// and the payment of the first of them.
+// and the payment of the first of them. Where there is none yet it is 0, as document 01 reads an entry beyond a list's end: its one reader would make a 0 of an Option.
 #[derive(Clone, Copy)]
 pub struct RowState {
     pub projected: usize,
@@ -26,62 +24,48 @@ pub struct RowState {
     pub first_payment: Millionths,
 }
 
-// Accident year i before its first projected year.
-pub fn first_state(i: usize, outstandings: &[i64; ACCIDENT_YEARS]) -> RowState
-    requires { (1 ≤ i) × (i ≤ most_accident_years) × (pos 0 ≤ℤ entry outstandings.now i) × (entry outstandings.now i ≤ℤ greatest_outstanding) }
-    ensures { result ≡ state_before (entry outstandings.now i) }
-{
-    let outstanding = Millionths::from_units(outstandings[i - 1]);
-    RowState {
-        projected: 0,
-        outstanding: outstanding,
-        paid: Millionths(0),
-        incurred: outstanding,
-        first_payment: Millionths(0),
+impl RowState {
+    // Accident year i before its first projected year.
+    pub fn first(triangle: &PreparedTriangle, i: usize) -> RowState
+        requires { (1 ≤ i) × (i ≤ triangle.now.n) }
+        ensures { result ≡ state_before (entry triangle.now.outstandings i) }
+    {
+        let outstanding = Millionths::from_units(triangle.outstandings[i - 1]);
+        RowState {
+            projected: 0,
+            outstanding,
+            paid: Millionths(0),
+            incurred: outstanding,
+            first_payment: Millionths(0),
+        }
     }
-}
 
-// The figures of the year that follows the projected ones of accident year i, or that one of them passes the limit of question 9:
-// both shares are compared with it in `rounded_share`, the outstanding in `next_year`.
-pub fn year_after(
-    n: usize,
-    i: usize,
-    years: &[[u64; NUMBERS_OF_A_YEAR]; DEVELOPMENT_YEARS],
-    state: RowState,
-) -> ProjectedYear
-    requires { YearToProject n i years.now state }
-    ensures { result ≡ year_or_too_large (next_year state.outstanding.0 (sums_at (ratios_of years.now) (n - i + (state.projected + 1)))) }
-{
-    let outstanding = state.outstanding;
-    next_year(
-        outstanding,
-        year_at(years, place_of_year(n, i, state.projected)),
-    )
-}
+    // The figures of the year that follows the projected ones of accident year i; `None` where one of them passes the limit of question 9:
+    // both shares are compared with it in `rounded_share`, the outstanding in `projection::next_year`.
+    // The ratios that lead from development year k to k + 1 stand at k − 1.
+    pub fn next_year(self, triangle: &PreparedTriangle, i: usize) -> Option<Movement>
+        requires { YearToProject triangle.now i self }
+        ensures { result ≡ year_or_too_large (next_year self.outstanding.0
+            (sums_at (ratios_of triangle.now.years) (triangle.now.n - i + (self.projected + 1)))) }
+    {
+        next_year(
+            self.outstanding,
+            triangle.years[triangle.n - i + self.projected],
+        )
+    }
 
-// Where the ratios stand that lead to the year after these projected ones: those of development year k, which lead to k + 1, at k − 1.
-fn place_of_year(n: usize, i: usize, projected: usize) -> usize
-    requires { (i ≤ n) × (n ≤ most_accident_years) × (projected ≤ most_accident_years) }
-    ensures { result ≡ n - i + projected }
-{
-    n - i + projected
-}
-
-// The state with these figures of one year more.
-pub fn with_year(state: RowState, movement: Movement) -> RowState
-    requires { YearAddable state movement }
-    ensures { result ≡ with_year state movement }
-{
-    let payment = movement.payment;
-    let adjustment = movement.adjustment;
-    let outstanding = movement.outstanding;
-    let projected = state.projected;
-    RowState {
-        projected: projected + 1,
-        outstanding: outstanding,
-        paid: plus(state.paid, payment),
-        incurred: plus(state.incurred, adjustment),
-        first_payment: first_of(projected, payment, state.first_payment),
+    // The state with these figures of one year more.
+    pub fn with_year(self, movement: Movement) -> RowState
+        requires { YearAddable self movement }
+        ensures { result ≡ with_year self movement }
+    {
+        RowState {
+            projected: self.projected + 1,
+            outstanding: movement.outstanding,
+            paid: plus(self.paid, movement.payment),
+            incurred: plus(self.incurred, movement.adjustment),
+            first_payment: first_of(self.projected, movement.payment, self.first_payment),
+        }
     }
 }
 

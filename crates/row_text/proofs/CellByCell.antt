@@ -1,119 +1,85 @@
 -- A line that is read cell by cell into a list, over the meaning of what is left of the line.
-use mathlib.Core.Path.{◌≡◌, refl, sym, ap, ap₂, ◌∙◌, subst}
-use mathlib.Core.List.{List, [], ◌∷◌, ◌++◌, append-nil}
+use mathlib.Core.Path.{◌≡◌, refl, sym, ap, ◌∙◌}
+use mathlib.Core.Bool.{Bool, true, false}
+use mathlib.Core.List.{List, [], ◌∷◌, append-nil}
 use Prim.Native.Nat.{ℕ, suc, ◌+◌, ◌-◌, ◌≤◌, ◌<◌}
-use native.Mathlib.Nat.{zero-add}
+use native.Mathlib.Nat.{add-zero}
 use native.Mathlib.Numerals.{add-one}
 use native.Mathlib.Omega.{arith}
+use lib.Dec.{ltb}
 use lib.IntN.{ℤ}
-use lib.ListN.{length, take, drop, set, length-set}
-use lib.Seq.{append_snoc, drop-drop, take-suc-set, length-take-le}
-use Rattle.lists.proofs.Parts.{whole_rest, rest_within}
-use Rattle.line_parts.specs.Cells.{first_cell, after_cell}
-use Rattle.row_text.specs.Rows.{RowNumbers, numbers, wrong, with_number, after_entry, row_read, RowReadAs}
-use Rattle.row_text.specs.declared.entries.CellFault.{CellFault}
-use Rattle.row_text.specs.declared.entries.Entry.{Entry}
-use Rattle.row_text.specs.declared.entries.Entry.TheVariants.{Amount, Wrong}
-use Rattle.row_text.specs.declared.rows.RowRead as read
-use Rattle.row_text.specs.declared.rows.RowRead.{RowRead}
+use lib.ListN.{length, take, set, length-set}
+use lib.Seq.{take-suc-set}
+use Rattle.std.specs.Prelude.{Result, Ok, Err}
+use Rattle.figures.specs.Reading.{figure_of}
+use Rattle.line_parts.specs.Cells.{first_cell, after_cell, from_content}
+use Rattle.row_text.specs.Entries.{entry_of}
+use Rattle.row_text.specs.Rows.{RowNumbers, with_numbers, at_cell, after_entry, ends_here, ended, numbers_from, counted_from, ReadAs}
+use Rattle.row_text.specs.declared.rows.WrongCell.{WrongCell}
+use Rattle.row_text.proofs.ReadLists.{with_no_numbers, with_numbers_twice, read_wrong, read_right}
 
--- ---- The part of a line from a place on, as a call is lent it
+-- ---- What is left of a row
 
-abbrev pub part_from : List ℕ → ℕ → List ℕ
-part_from line start = take (length line - start) (drop start line)
+module _ (separator missing : ℕ) (cumulated openings : Bool) (count cells : ℕ) (figure : ℤ) (rest : List ℕ) where
+  -- so many numbers in all, after so many cells and a figure
+  abbrev pub numbers_left : RowNumbers
+  numbers_left = numbers_from separator missing cumulated openings (count - cells) cells figure rest
 
-module _ (separator : ℕ) (line : List ℕ) (start : ℕ) where
-  pub cell_here : {cell : List ℕ} → cell ≡ first_cell separator (part_from line start) → cell ≡ first_cell separator (drop start line)
-  cell_here is = is ∙ ap (first_cell separator) (whole_rest line start)
+  pub row_ends_here : cells < count → ends_here openings (from_content separator rest) ≡ true → numbers_left ≡ Ok []
+  unfolding numbers_from
+  row_ends_here more here = let one_more : count - cells ≡ suc (count - suc cells) = omega arith in rw (one_more, here)
 
-  after_cell_here : (size : ℕ) → drop size (part_from line start) ≡ after_cell separator (part_from line start)
-      → drop (start + size) line ≡ after_cell separator (drop start line)
-  after_cell_here size is = sym (drop-drop size start line) ∙ (rw (whole_rest line start) at is)
+  pub no_number_follows : count ≤ cells → numbers_left ≡ ended separator openings cells rest (from_content separator rest)
+  unfolding numbers_from
+  no_number_follows none =
+      let no_more : count - cells ≡ 0 = omega arith in
+      ap (λ left. numbers_from separator missing cumulated openings left cells figure rest) no_more
 
--- ---- Numbers before others
-
-abbrev pub joined : List ℤ → RowNumbers → RowNumbers
-joined first (numbers others) = numbers (first ++ others)
-joined first (wrong cell fault) = wrong cell fault
-
-joined_none : (meaning : RowNumbers) → joined [] meaning ≡ meaning
-joined_none (numbers others) = refl
-joined_none (wrong cell fault) = refl
-
-joined_number : (first : List ℤ) (number : ℤ) (others : RowNumbers) → joined (first ++ (number ∷ [])) others ≡ joined first (with_number number others)
-joined_number first number (numbers others) = ap numbers (append_snoc first number others)
-joined_number first number (wrong cell fault) = refl
-
-never_both : {meaning : RowNumbers} {cell : ℕ} {fault : CellFault} {others : List ℤ} → meaning ≡ wrong cell fault → meaning ≡ numbers others → ⊥
-never_both p q = let z : ◌≡◌ {A = ℕ} 0 1 = cc in omega arith
-
-same_numbers : {meaning : RowNumbers} {first others : List ℤ} → meaning ≡ numbers first → meaning ≡ numbers others → first ≡ others
-same_numbers p q = cc
+  pub number_follows : cells < count → ends_here openings (from_content separator rest) ≡ false
+      → numbers_left ≡ after_entry (at_cell (suc cells) (entry_of (figure_of (first_cell separator rest)) (ltb cells missing) cumulated figure))
+      (λ next. numbers_from separator missing cumulated openings (count - suc cells) (suc cells) next (after_cell separator rest))
+  unfolding numbers_from
+  number_follows more not_here =
+      let one_more : count - cells ≡ suc (count - suc cells) = omega arith in
+      rw (one_more, not_here)
 
 -- ---- What is read so far
 
--- so many cells, up to a place of the line; what is left there means the rest
-pub record ReadSoFar (meaning : RowNumbers) (line : List ℕ) (before after : List ℤ) (start cells : ℕ) (left : RowNumbers) : Type 0 where
-  pub start_within : start ≤ length line
-  pub cells_within : cells ≤ length before
+-- the numbers of so many cells stand in the list; what is left of the line means the rest
+pub record ReadSoFar (meaning : RowNumbers) (line rest : List ℕ) (before after : List ℤ) (cells : ℕ) (left : RowNumbers) : Type 0 where
   pub same_length : length after ≡ length before
-  pub together : joined (take cells after) left ≡ meaning
+  pub rest_short : length rest ≤ length line
+  pub together : with_numbers (take cells after) left ≡ meaning
 
-pub nothing_read : (meaning : RowNumbers) (line : List ℕ) (list : List ℤ) → ReadSoFar meaning line list list 0 0 meaning
-nothing_read meaning line list = record {
-  start_within = omega arith;
-  cells_within = omega arith;
-  same_length = refl;
-  together = joined_none meaning;
-}
+pub nothing_read : (meaning : RowNumbers) (line : List ℕ) (list : List ℤ) → ReadSoFar meaning line line list list 0 meaning
+nothing_read meaning line list = record { same_length = refl; rest_short = omega arith; together = with_no_numbers meaning }
 
-module _ {meaning : RowNumbers} {line : List ℕ} {before after : List ℤ} {start cells : ℕ} {left : RowNumbers}
-    (s : ReadSoFar meaning line before after start cells left) where
-  -- ---- One cell more
-
-  pub cell_within : {size : ℕ} → size ≤ length (part_from line start) → start + size ≤ length line
-  cell_within = rest_within line start s.start_within
-
-  module _ (separator : ℕ) (others : ℕ → ℤ → List ℕ → RowNumbers) {entry : Entry}
-      (goes_on : left ≡ after_entry cells entry (λ figure. others (suc cells) figure (after_cell separator (drop start line)))) where
-    by_case : {known : Entry} → entry ≡ known → left ≡ after_entry cells known (λ figure. others (suc cells) figure (after_cell separator (drop start line)))
-    by_case told = goes_on ∙ ap (λ (e : Entry). after_entry cells e (λ figure. others (suc cells) figure (after_cell separator (drop start line)))) told
-
-    pub cell_read : {amount figure : ℤ} → entry ≡ Amount amount figure → cells < length after → (size : ℕ)
-        → (size ≤ length (part_from line start)) × (drop size (part_from line start) ≡ after_cell separator (part_from line start))
-        → ReadSoFar meaning line before (set after cells amount) (start + size) (cells + 1) (others (cells + 1) figure (drop (start + size) line))
-    cell_read {amount} {figure} told more size passed = rw (add-one cells) (record {
-      start_within = cell_within passed.0;
-      cells_within = omega (arith, s.same_length);
-      same_length = length-set after cells amount ∙ s.same_length;
-      together = ap₂ joined (take-suc-set after cells amount more)
-          (ap (others (suc cells) figure) (after_cell_here separator line start size passed.1))
-          ∙ joined_number (take cells after) amount (others (suc cells) figure (after_cell separator (drop start line)))
-          ∙ ap (joined (take cells after)) (sym (by_case told))
-          ∙ s.together;
-    })
-
-    pub cell_wrong : {fault : CellFault} → entry ≡ Wrong fault → left ≡ wrong (cells + 1) fault
-    cell_wrong {fault} told = by_case told ∙ ap (λ cell. wrong cell fault) (sym (add-one cells))
+module _ {meaning : RowNumbers} {line rest : List ℕ} {before after : List ℤ} {cells : ℕ} {left : RowNumbers}
+    (s : ReadSoFar meaning line rest before after cells left) where
+  -- a cell more
+  pub cell_read : (number : ℤ) (others : RowNumbers) {further : List ℕ} → left ≡ with_numbers (number ∷ []) others → cells < length after
+      → length further ≤ length rest → ReadSoFar meaning line further before (set after cells number) (cells + 1) others
+  cell_read number others goes_on more short = rw (add-one cells) (record {
+    same_length = length-set after cells number ∙ s.same_length;
+    rest_short = omega (arith, s.rest_short);
+    together = ap (λ first. with_numbers first others) (take-suc-set after cells number more)
+        ∙ sym (with_numbers_twice (take cells after) (number ∷ []) others)
+        ∙ ap (with_numbers (take cells after)) (sym goes_on)
+        ∙ s.together;
+  })
 
   -- ---- The answer
 
-  is_wrong : {cell : ℕ} {fault : CellFault} → left ≡ wrong cell fault → meaning ≡ wrong cell fault
-  is_wrong e = sym s.together ∙ ap (joined (take cells after)) e
+  pub row_wrong : {wrong_cell : WrongCell} {r : Result ℕ WrongCell} → left ≡ Err wrong_cell → r ≡ Err wrong_cell → ReadAs meaning r after
+  row_wrong e is = read_wrong after (sym s.together ∙ ap (with_numbers (take cells after)) e) is
 
-  is_right : left ≡ numbers [] → meaning ≡ numbers (take cells after)
-  is_right e = sym s.together ∙ ap (joined (take cells after)) e ∙ ap numbers (append-nil (take cells after))
+  pub row_right : cells ≤ length after → {r : Result ℕ WrongCell} → left ≡ Ok [] → r ≡ Ok cells → ReadAs meaning r after
+  row_right within e is = read_right after within (sym s.together ∙ ap (with_numbers (take cells after)) e ∙ ap Ok (append-nil (take cells after))) is
 
-  pub row_wrong : {cell : ℕ} {fault : CellFault} {r : RowRead} → left ≡ wrong cell fault → r ≡ read.TheVariants.Wrong cell fault → RowReadAs meaning r after
-  row_wrong e is = record {
-    read_is = is ∙ sym (ap (row_read 0) (is_wrong e));
-    numbers_are = λ others n. absurd (never_both (is_wrong e) n);
-  }
-
-  pub row_right : {r : RowRead} → left ≡ numbers [] → r ≡ read.TheVariants.Right cells → RowReadAs meaning r after
-  row_right e is =
-      let long = length-take-le cells after (omega (arith, s.cells_within, s.same_length)) in
-      record {
-        read_is = is ∙ ap read.TheVariants.Right (sym (zero-add (length (take cells after)) ∙ long)) ∙ sym (ap (row_read 0) (is_right e));
-        numbers_are = λ others n. subst (λ (first : List ℤ). take (length first) after ≡ first) (same_numbers (is_right e) n) (ap (λ count. take count after) long);
-      }
+  -- by what is left of the line
+  pub row_ended : cells ≤ length after → {r : Result ℕ WrongCell} (separator : ℕ) (openings : Bool) (content : List ℕ)
+      → left ≡ ended separator openings cells rest content
+      → r ≡ counted_from cells (ended separator openings cells rest content) → ReadAs meaning r after
+  row_ended within separator openings [] e is = row_right within e (is ∙ ap Ok (add-zero cells))
+  row_ended within separator true (byte ∷ others) e is = row_wrong e is
+  row_ended within separator false (byte ∷ others) e is = row_wrong e is

@@ -1,4 +1,3 @@
--- The laws of rows: bytes counted, a line read cell by cell into a list, and where its row ends.
-pub mod Occurrences
+-- The laws of rows: numbers read into a list, and a line read cell by cell.
+pub mod ReadLists
 pub mod CellByCell
-pub mod NumbersOfRow

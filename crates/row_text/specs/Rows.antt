@@ -1,58 +1,59 @@
 -- The numbers of a row of text, cell after cell.
-use Rattle.std.specs.Prelude.{◌≡◌, Bool, true, false, cond, List, [], ◌∷◌, ℕ, zero, suc, ◌+◌, ◌≤◌, ltb, eqb, ℤ, pos, length, take}
+use Rattle.std.specs.Prelude.{◌≡◌, Bool, true, false, ◌&&◌, cond, List, [], ◌∷◌, ◌++◌, ℕ, zero, suc, ◌+◌, ◌≤◌, ◌==◌, ltb, ℤ, pos, length, take, count_by, Result, Ok, Err}
 use Rattle.figures.specs.Reading.{figure_of}
 use Rattle.text.specs.Bytes.{longest_text}
-use Rattle.text.specs.Search.{before}
-use Rattle.text.specs.declared.search.Sought.TheVariants.{NeitherSpaceNor}
-use Rattle.line_parts.specs.Cells.{first_cell, after_cell, from_content}
+use Rattle.text.specs.Search.{is_content, before}
+use Rattle.line_parts.specs.Cells.{is_empty, first_cell, after_cell, from_content}
 use Rattle.row_text.specs.Entries.{entry_of}
 use Rattle.row_text.specs.declared.entries.CellFault.{CellFault}
 use Rattle.row_text.specs.declared.entries.CellFault.TheVariants.{RowEnd, NoFurtherOpening}
 use Rattle.row_text.specs.declared.entries.Entry.{Entry}
-use Rattle.row_text.specs.declared.entries.Entry.TheVariants.{Amount, Wrong}
-use Rattle.row_text.specs.declared.rows.RowRead.{RowRead}
-use Rattle.row_text.specs.declared.rows.RowRead as read
+use Rattle.row_text.specs.declared.rows.WrongCell.{WrongCell}
 
 -- The numbers of a row, or its first cell, counted from 1, that is wrong.
-pub data RowNumbers : Type 0 where
-  numbers : List ℤ → RowNumbers
-  wrong : ℕ → CellFault → RowNumbers
+abbrev pub RowNumbers : Type 0
+RowNumbers = Result (List ℤ) WrongCell
 
--- with one number more before the others
-abbrev pub with_number : ℤ → RowNumbers → RowNumbers
-with_number number (numbers others) = numbers (number ∷ others)
-with_number number (wrong cell fault) = wrong cell fault
+abbrev pub wrong : ℕ → CellFault → RowNumbers
+wrong cell expected = Err record { cell = cell; expected = expected }
 
--- a row that goes on, by the figure of an entry, after so many cells and that entry
-abbrev pub after_entry : ℕ → Entry → (ℤ → RowNumbers) → RowNumbers
-after_entry cells (Amount amount figure) others = with_number amount (others figure)
-after_entry cells (Wrong fault) others = wrong (suc cells) fault
+-- with numbers before them
+abbrev pub with_numbers : {E : Type 0} → List ℤ → Result (List ℤ) E → Result (List ℤ) E
+with_numbers first (Ok later) = Ok (first ++ later)
+with_numbers first (Err wrong_there) = Err wrong_there
+
+-- what the cell of this number holds
+abbrev pub at_cell : ℕ → Result Entry CellFault → Result Entry WrongCell
+at_cell cell (Ok entry) = Ok entry
+at_cell cell (Err expected) = Err record { cell = cell; expected = expected }
+
+-- a row that goes on after an entry, by its figure
+abbrev pub after_entry : Result Entry WrongCell → (ℤ → RowNumbers) → RowNumbers
+after_entry (Ok entry) others = with_numbers (entry.amount ∷ []) (others entry.figure)
+after_entry (Err wrong_cell) others = Err wrong_cell
 
 -- how often a byte stands in a text
-unfoldable pub occurrences : ℕ → List ℕ → ℕ
-occurrences byte [] = 0
-occurrences byte (other ∷ text) = elim (eqb other byte) [ true ↦ suc (occurrences byte text) | false ↦ occurrences byte text ]
+abbrev pub occurrences : ℕ → List ℕ → ℕ
+occurrences byte text = count_by (λ other. other == byte) text
 
 -- a row of openings ends where nothing but blank cells is left of its line, another row only when it has its numbers
 abbrev pub ends_here : Bool → List ℕ → Bool
-ends_here true [] = true
-ends_here true (byte ∷ rest) = false
-ends_here false rest = false
+ends_here openings content = openings && is_empty content
 
 module _ (separator : ℕ) where
   -- What is left of a line after its last number, in so many cells, from its first byte on that is neither a space nor a separator.
   abbrev pub ended : Bool → ℕ → List ℕ → List ℕ → RowNumbers
-  ended openings cells rest [] = numbers []
+  ended openings cells rest [] = Ok []
   ended true cells rest (byte ∷ others) = wrong (cells + 1) NoFurtherOpening
-  ended false cells rest (byte ∷ others) = wrong (cells + 1 + occurrences separator (before (NeitherSpaceNor separator) rest)) RowEnd
+  ended false cells rest (byte ∷ others) = wrong (cells + 1 + occurrences separator (before (is_content separator) rest)) RowEnd
 
   -- so many numbers of what is left of a line, or at most so many openings, after so many cells and a figure; of all cells some are missing
   unfoldable pub numbers_from : ℕ → Bool → Bool → ℕ → ℕ → ℤ → List ℕ → RowNumbers
   numbers_from missing cumulated openings zero cells figure rest = ended openings cells rest (from_content separator rest)
   numbers_from missing cumulated openings (suc left) cells figure rest =
       cond (ends_here openings (from_content separator rest))
-      (numbers [])
-      (after_entry cells (entry_of (figure_of (first_cell separator rest)) (ltb cells missing) cumulated figure)
+      (Ok [])
+      (after_entry (at_cell (suc cells) (entry_of (figure_of (first_cell separator rest)) (ltb cells missing) cumulated figure))
       (λ next. numbers_from missing cumulated openings left (suc cells) next (after_cell separator rest)))
 
   -- A row of so many numbers, or of at most so many openings. The cells that follow are blank, and its first cells, as many as are missing, may be.
@@ -70,17 +71,12 @@ pub record RowInput (line : List ℕ) (list : List ℤ) : Type 0 where
   pub line_short : length line ≤ longest_text
   pub list_short : length list ≤ 32
 
--- a row that ends with this entry, in the cell of this number
-abbrev pub entry_read : ℕ → Entry → RowRead
-entry_read cell (Amount amount figure) = read.TheVariants.Right cell
-entry_read cell (Wrong fault) = read.TheVariants.Wrong cell fault
+-- how many numbers, after so many; what is wrong, as it is
+abbrev pub counted_from : {E : Type 0} → ℕ → Result (List ℤ) E → Result ℕ E
+counted_from count (Ok others) = Ok (count + length others)
+counted_from count (Err wrong_there) = Err wrong_there
 
--- a row after so many of its numbers, by what is left of it
-abbrev pub row_read : ℕ → RowNumbers → RowRead
-row_read count (numbers others) = read.TheVariants.Right (count + length others)
-row_read count (wrong cell fault) = read.TheVariants.Wrong cell fault
-
--- The answer on a row, and its numbers from the left of the list that it was read into. What stands behind them is left open.
-pub record RowReadAs (meaning : RowNumbers) (r : RowRead) (list : List ℤ) : Type 0 where
-  pub read_is : r ≡ row_read 0 meaning
-  pub numbers_are : (others : List ℤ) → meaning ≡ numbers others → take (length others) list ≡ others
+-- The answer on numbers that were read into a list: how many stand from its left, or what is wrong. What stands behind them is left open.
+pub record ReadAs {E : Type 0} (meaning : Result (List ℤ) E) (r : Result ℕ E) (list : List ℤ) : Type 0 where
+  pub read_is : r ≡ counted_from 0 meaning
+  pub numbers_are : (others : List ℤ) → meaning ≡ Ok others → take (length others) list ≡ others

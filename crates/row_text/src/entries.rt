@@ -3,11 +3,11 @@ ghost use Rattle.std.specs.Prelude.{◌≡◌};
 ghost use Rattle.figures.specs.Reading.{figure_of};
 ghost use Rattle.row_text.specs.Entries as meaning;
 
-use exact_sums::exact::{Exact, difference};
-use figures::reading::{Figure, figure_of};
+use exact_sums::exact::difference;
+use figures::reading::{NoFigure, figure_of};
 
 // What was expected in a cell.
-#[derive(Clone, Copy)]
+#[derive(Clone, Copy, PartialEq, Eq)]
 pub enum CellFault {
     NumberForBlank,
     WholeNumber,
@@ -17,51 +17,41 @@ pub enum CellFault {
     NoFurtherOpening,
 }
 
-// What a cell holds, or what was expected in it.
+// The amount that a cell holds, and the figure that was written there.
 #[derive(Clone, Copy)]
-pub enum Entry {
-    // the amount, and the figure that was written
-    Amount(i64, i64),
-    Wrong(CellFault),
+pub struct Entry {
+    pub amount: i64,
+    pub figure: i64,
 }
 
 // A blank cell is 0 where it is missing. A cumulated figure adds its difference from the one before it.
-pub(crate) fn entry_in(cell: &[u8], missing: bool, cumulated: bool, before: i64) -> Entry
+pub(crate) fn entry_in(
+    cell: &[u8],
+    missing: bool,
+    cumulated: bool,
+    before: i64,
+) -> Result<Entry, CellFault>
     ensures { result ≡ meaning.entry_of (figure_of cell.now) missing cumulated before }
 {
-    let figure = figure_of(cell);
-    match figure {
-        Figure::Whole(number) => of_number(number, cumulated, before),
-        Figure::TooLarge => Entry::Wrong(CellFault::SixtyFourBits),
-        Figure::NotWhole => Entry::Wrong(CellFault::WholeNumber),
-        Figure::Blank => of_blank(missing),
+    match figure_of(cell) {
+        Ok(figure) => of_figure(figure, cumulated, before),
+        Err(NoFigure::Blank) if missing => Ok(Entry {
+            amount: 0,
+            figure: 0,
+        }),
+        Err(NoFigure::Blank) => Err(CellFault::NumberForBlank),
+        Err(NoFigure::TooLarge) => Err(CellFault::SixtyFourBits),
+        Err(NoFigure::NotWhole) => Err(CellFault::WholeNumber),
     }
 }
 
-fn of_blank(missing: bool) -> Entry
-    ensures { result ≡ meaning.of_blank missing }
+fn of_figure(figure: i64, cumulated: bool, before: i64) -> Result<Entry, CellFault>
+    ensures { result ≡ meaning.of_figure figure cumulated before }
 {
-    if missing {
-        Entry::Amount(0, 0)
+    let amount = if cumulated {
+        difference(figure, before).ok_or(CellFault::DifferenceOfSixtyFourBits)?
     } else {
-        Entry::Wrong(CellFault::NumberForBlank)
-    }
-}
-
-fn of_number(number: i64, cumulated: bool, before: i64) -> Entry
-    ensures { result ≡ meaning.of_number number cumulated before }
-{
-    if cumulated {
-        return increment(number, difference(number, before));
-    }
-    Entry::Amount(number, number)
-}
-
-fn increment(number: i64, exact: Exact) -> Entry
-    ensures { result ≡ meaning.increment number exact }
-{
-    match exact {
-        Exact::Of(amount) => Entry::Amount(amount, number),
-        Exact::TooLarge => Entry::Wrong(CellFault::DifferenceOfSixtyFourBits),
-    }
+        figure
+    };
+    Ok(Entry { amount, figure })
 }

@@ -10,17 +10,19 @@ ghost use Rattle.verdicts.specs.Verdicts.{verdict_of};
 ghost use Rattle.rows.specs.Rows.{amounts_of, RowInside, OwnPart, named_of, RowReturned};
 
 use verdicts::limits::from_to;
-use verdicts::verdict::{Verdict, asked};
+use verdicts::verdict::{Question, Verdict, asked};
 use verdicts::years::question_1;
 
 // The list that a call names.
-#[derive(Clone, Copy)]
+#[derive(Clone, Copy, PartialEq, Eq)]
 pub enum AmountList {
     Payments,
     Adjustments,
 }
 
 // The row of an accident year, as the part of the list that is named; empty where `row_verdict` refuses.
+// What is lent stays flat, as the C interface lends it to `row_verdict`: a struct of n and both lists would be made for one call.
+// Kept as no Result: document 01 wants a refused row empty, and its number and place from a second call.
 pub fn row<'a>(
     years: i64,
     payments: &'a [i64],
@@ -31,11 +33,10 @@ pub fn row<'a>(
     ensures { RowReturned years payments.entry adjustments.entry accident_year (amounts_of named) result }
 {
     let list = named_list(payments, adjustments, named);
-    let verdict = row_verdict(years, payments, adjustments, named, accident_year);
-    let Verdict::Accepted = verdict else {
-        return &list[0..0];
-    };
-    row_of(list, years as usize, accident_year as usize)
+    match row_verdict(years, payments, adjustments, named, accident_year) {
+        Ok(()) => row_of(list, years as usize, accident_year as usize),
+        Err(_) => &list[..0],
+    }
 }
 
 // Row i of a list whose rows have n, n − 1, … cells.
@@ -63,17 +64,13 @@ pub fn row_verdict<'a>(
     ensures whole { verdict_of result ≡ meaning.row_verdict years payments.now adjustments.now accident_year }
     ensures demand_1 { Demand1OfRow years payments.now adjustments.now accident_year (verdict_of result) }
 {
-    let first = question_1(years);
-    let Verdict::Accepted = first else {
-        return first;
-    };
-    let third = asked(both_lengths_right(years as usize, payments, adjustments), 3);
-    let Verdict::Accepted = third else {
-        return third;
-    };
-    asked(from_to(1, years, accident_year), 10)
+    question_1(years)?;
+    let right = both_lengths_right(years as usize, payments, adjustments);
+    asked(right, Question::Lengths)?;
+    asked(from_to(1, years, accident_year), Question::YearsAsked)
 }
 
+#[tactic(auto, using(verdicts::proofs::Counts::few_cells), unfolding(method::specs::Answers::both_lengths_right))]
 fn both_lengths_right<'a>(n: usize, payments: &'a [i64], adjustments: &'a [i64]) -> bool
     requires { n ≤ most_accident_years }
     ensures { result ≡ meaning.both_lengths_right (pos n) payments.now adjustments.now }

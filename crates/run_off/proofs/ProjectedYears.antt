@@ -2,6 +2,7 @@
 use mathlib.Core.Path.{◌≡◌, refl, sym, ap, ap₂, ◌∙◌, subst}
 use mathlib.Core.Bool.{true}
 use mathlib.Core.List.{List, [], ◌++◌}
+use Rattle.std.proofs.Common.{Option, Some, None}
 use Prim.Native.Nat.{ℕ, zero, suc, ◌+◌, ◌*◌, ◌-◌, ◌≤◌, ◌<◌}
 use native.Mathlib.Nat.{add-zero}
 use native.Mathlib.Numerals.{add-one}
@@ -9,8 +10,6 @@ use native.Mathlib.Omega.{arith}
 use lib.IntN.{ℤ, pos, ◌+ℤ◌, nat_abs, +ℤ_idr}
 use lib.ListN.{get_or-append}
 use lib.Signed.{◌≤ℤ◌, le_z_yes}
-use mir.Syntax.{w64}
-use mir.Val.{Fits}
 use Rattle.integers.proofs.RingSolver.{con, ◌:+◌, ◌:*◌, ◌:=◌, ring}
 use Rattle.integers.proofs.LinearFacts.{integers, ≤ℤ-by}
 use Rattle.integers.proofs.Order.{*ℤ-nonneg, nat_abs_in_range, nat_abs-+ℤ, nat_abs-≤}
@@ -33,21 +32,17 @@ use Rattle.method.proofs.RunOff.{O_observed, O_projected}
 use Rattle.share.specs.declared.millionths.Millionths.{Millionths}
 use Rattle.prepared_ratios.specs.Ratio.{greatest_size}
 use Rattle.ratios.specs.Ratios.{sums_at}
+use Rattle.prepared_years.specs.declared.triangle.PreparedTriangle.{PreparedTriangle}
 use Rattle.prepared_years.specs.Prepared.{ratios_of}
+use Rattle.prepared_years.proofs.PreparedYears.{sums_in_range}
 use Rattle.projection.specs.declared.Movement.{Movement}
-use Rattle.projection.specs.declared.ProjectedYear.{ProjectedYear}
-use Rattle.projection.specs.declared.ProjectedYear.TheVariants.{Within, TooLarge}
 use Rattle.projection.specs.Year.{year_or_too_large, movement_of}
 use Rattle.projection.proofs.Years.{within_is, within_small}
 use Rattle.row_states.specs.declared.RowState.{RowState}
 use Rattle.row_states.specs.States.{state_before, first_of, with_year, YearAddable, YearToProject}
 use Rattle.row_states.proofs.States.{millionths, same_state}
-use Rattle.run_off.specs.MethodRead.{method_read, Projectable}
+use Rattle.run_off.specs.MethodRead.{method_read}
 use Rattle.run_off.specs.Rows.{row_state}
-
--- the years of an accident year fit 64 bits
-pub few_years : {n i j : ℕ} → n ≤ most_accident_years → i ≤ n → j ≤ i - 1 → Fits w64 (j + 1)
-few_years p q r = record { fits = omega arith }
 
 -- ---- The state after j projected years
 
@@ -56,9 +51,9 @@ module _ (m : Method) (i : ℕ) where
   year_question j = ask (figures_in_range (movement m i (year_before m i j))) 9 (at i (suc (year_before m i j)))
 
   -- the years that are behind passed question 9
-  pub record RowSoFar (s : RowState) : Type 0 where
-    pub asked : PassedSoFar (i - 1) year_question s.projected
-    pub state_is : s ≡ row_state m i s.projected
+  pub record RowSoFar (j : ℕ) (s : RowState) : Type 0 where
+    pub asked : PassedSoFar (i - 1) year_question j
+    pub state_is : s ≡ row_state m i j
 
   -- the first payment is kept
   first_kept : (j : ℕ) (first : Millionths) → first.0 ≡ entry (figures_to m i j) 1
@@ -67,7 +62,7 @@ module _ (m : Method) (i : ℕ) where
   first_kept zero first e = refl
   first_kept (suc j) first e = millionths (e ∙ sym (get_or-append (figures_to m i (suc j)) (figures (movement m i (year_before m i (suc (suc j))))) (pos 0) 0 (omega (arith, years_length m i (suc j)))))
 
-  pub no_year : i ≤ m.years → RowSoFar (state_before (m.observed i (last_observed m i)))
+  pub no_year : i ≤ m.years → RowSoFar 0 (state_before (m.observed i (last_observed m i)))
   unfolding row_state entry
   no_year h = record {
     asked = none_asked _ _;
@@ -95,14 +90,14 @@ module _ (m : Method) (i : ℕ) where
 abbrev pub InRange : ℤ → Type 0
 InRange x = (pos 0 ≤ℤ x) × (x ≤ℤ greatest_figure)
 
-module _ {n : ℕ} {years : List (List ℕ)} {outstandings : List ℤ} (ok : Projectable n years outstandings) {i : ℕ} (y : AccidentYear n i) where
+module _ (t : PreparedTriangle) {i : ℕ} (y : AccidentYear t.n i) where
   abbrev m : Method
-  m = method_read n (ratios_of years) outstandings
+  m = method_read t
 
   first_in_range : InRange (first_outstanding m i)
   first_in_range =
-      let units = entry outstandings i in
-      let h = ok.outstanding_in_range i y.first y.last in (
+      let units = entry t.outstandings i in
+      let h = t.outstandings_in_range i y.first y.last in (
         *ℤ-nonneg units one_unit h.0 (le_z_yes tt),
         ≤ℤ-by (con units :* con one_unit) (con greatest_figure) (omega (arith, integers, h.0, h.1)),
       )
@@ -117,17 +112,18 @@ module _ {n : ℕ} {years : List (List ℕ)} {outstandings : List ℤ} (ok : Pro
       let k : ℕ = year_before m i (suc j) in
       let e : suc k ≡ last_observed m i + suc j = omega (arith, y.last) in
       let b : last_observed m i + j ≡ k = omega (arith, y.last) in
-      let s = ok.sums_in_range k (omega arith) (omega (arith, y.last)) in
+      let s = sums_in_range t k (omega arith) (omega (arith, y.last)) in
       let before = subst (λ (x : ℕ). InRange (O m i x)) b (outstanding_in_range j (omega arith) (λ a p q. f a p (omega arith))) in
       let small = (figures_in_range_true _ (f (suc j) (omega arith) (omega arith))).outstanding in
       subst (λ (x : ℕ). InRange (O m i x)) e (subst InRange (sym (O_projected m i k (omega arith))) (
-        next_nonneg (O m i k) (sums_at (ratios_of years) k) s.D_positive before.0 s.factor_nonneg,
+        next_nonneg (O m i k) (sums_at (ratios_of t.years) k) s.D_positive before.0 s.factor_nonneg,
         ((nat_abs-≤ _ greatest_size).0 (omega (arith, integers, small))).1,
       ))
 
-  module _ {s : RowState} (r : RowSoFar m i s) where
-    abbrev j : ℕ
-    j = s.projected
+  module _ {j : ℕ} {s : RowState} (r : RowSoFar m i j s) where
+    projected_is : s.projected ≡ j
+    unfolding row_state
+    projected_is = ap (λ (x : RowState). x.projected) r.state_is
 
     -- the figures of the years behind
     passed : (a : ℕ) → 1 ≤ a → a ≤ j → figures_in_range (movement m i (year_before m i a)) ≡ true
@@ -144,7 +140,7 @@ module _ {n : ℕ} {years : List (List ℕ)} {outstandings : List ℤ} (ok : Pro
 
     module _ (more : j + 1 < i) where
       few : j + 2 ≤ most_accident_years
-      few = omega (arith, y.last, ok.most)
+      few = omega (arith, y.last, t.most)
 
       paid_size : nat_abs s.paid.0 ≤ most_accident_years * greatest_size
       unfolding row_state
@@ -166,16 +162,13 @@ module _ {n : ℕ} {years : List (List ℕ)} {outstandings : List ℤ} (ok : Pro
             sum_size (λ x. x.adjustment) (λ x f. omega (arith, integers, f.adjustment)),
           ))
 
-      pub year_to_project : YearToProject n i years s
+      pub year_to_project : YearToProject t i s
       year_to_project = record {
         last = y.last;
-        most = ok.most;
-        more = more;
-        ready = ok.ready (n - i + j) (omega (arith, y.last));
-        input = record {
-          outstanding_nonneg = subst (λ (x : ℤ). pos 0 ≤ℤ x) (sym outstanding_is) here.0;
-          outstanding_most = subst (λ (x : ℤ). x ≤ℤ greatest_figure) (sym outstanding_is) here.1;
-          sums_in_range = ok.sums_in_range (n - i + (j + 1)) (omega arith) (omega (arith, y.last));
+        more = omega (arith, projected_is);
+        outstanding = record {
+          nonneg = subst (λ (x : ℤ). pos 0 ≤ℤ x) (sym outstanding_is) here.0;
+          most = subst (λ (x : ℤ). x ≤ℤ greatest_figure) (sym outstanding_is) here.1;
         };
       }
         where
@@ -183,19 +176,20 @@ module _ {n : ℕ} {years : List (List ℕ)} {outstandings : List ℤ} (ok : Pro
           here = outstanding_in_range j (omega arith) passed
 
       -- the year at hand
-      year_is : next_year s.outstanding.0 (sums_at (ratios_of years) (n - i + (j + 1))) ≡ movement m i (year_before m i (j + 1))
+      year_is : next_year s.outstanding.0 (sums_at (ratios_of t.years) (t.n - i + (s.projected + 1))) ≡ movement m i (year_before m i (j + 1))
       unfolding movement
       year_is =
-          let e : last_observed m i + j ≡ n - i + (j + 1) = omega (arith, y.last) in
-          ap (λ (x : ℤ). next_year x (sums_at (ratios_of years) (n - i + (j + 1)))) (outstanding_is ∙ ap (O m i) e)
+          let e : last_observed m i + j ≡ t.n - i + (j + 1) = omega (arith, y.last) in
+          ap (λ (x : ℕ). next_year s.outstanding.0 (sums_at (ratios_of t.years) (t.n - i + (x + 1)))) projected_is
+          ∙ ap (λ (x : ℤ). next_year x (sums_at (ratios_of t.years) (t.n - i + (j + 1)))) (outstanding_is ∙ ap (O m i) e)
 
       -- what is answered of it
-      module _ {answer : ProjectedYear} (is : answer ≡ year_or_too_large (next_year s.outstanding.0 (sums_at (ratios_of years) (n - i + (j + 1))))) where
-        pub too_large : answer ≡ TooLarge → TooLarge ≡ year_or_too_large (movement m i (year_before m i (j + 1)))
+      module _ {answer : Option Movement} (is : answer ≡ year_or_too_large (next_year s.outstanding.0 (sums_at (ratios_of t.years) (t.n - i + (s.projected + 1))))) where
+        pub too_large : answer ≡ None → None ≡ year_or_too_large (movement m i (year_before m i (j + 1)))
         too_large told = sym told ∙ is ∙ ap year_or_too_large year_is
 
-        module _ {x : Movement} (told : answer ≡ Within x) where
-          within : Within x ≡ year_or_too_large (next_year s.outstanding.0 (sums_at (ratios_of years) (n - i + (j + 1))))
+        module _ {x : Movement} (told : answer ≡ Some x) where
+          within : Some x ≡ year_or_too_large (next_year s.outstanding.0 (sums_at (ratios_of t.years) (t.n - i + (s.projected + 1))))
           within = sym told ∙ is
 
           in_limits : figures_in_range (movement m i (year_before m i (j + 1))) ≡ true
@@ -206,12 +200,12 @@ module _ {n : ℕ} {years : List (List ℕ)} {outstandings : List ℤ} (ok : Pro
 
           pub year_addable : YearAddable s x
           year_addable = record {
-            projected = omega (arith, few);
+            projected = omega (arith, few, projected_is);
             paid = record { sum_size = paid_size; figure_size = (within_small _ x within).payment };
             incurred = record { sum_size = incurred_size; figure_size = (within_small _ x within).adjustment };
           }
 
-          pub one_year_more : RowSoFar m i (with_year s x)
+          pub one_year_more : RowSoFar m i (j + 1) (with_year s x)
           one_year_more = record {
             asked = next_accepted r.asked (omega arith) (ask_yes _ 9 _ in_limits);
             state_is = ap₂ with_year r.state_is movement_is ∙ year_more m i j more y.last;

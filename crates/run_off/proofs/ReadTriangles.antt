@@ -1,9 +1,11 @@
 -- What was read off a triangle that questions 1 to 8 accept: it can be projected, its rows are the triangle's, and question 9 completes the verdict.
-use mathlib.Core.Path.{◌≡◌, refl, sym, ap, ap₂, ◌∙◌, subst}
+use mathlib.Core.Path.{◌≡◌, sym, ap, ap₂, ◌∙◌}
+use mathlib.Core.Bool.{Bool}
 use mathlib.Core.List.{List}
 use Prim.Native.Nat.{ℕ, ◌+◌, ◌-◌, ◌≤◌, ◌<◌}
 use native.Mathlib.Omega.{arith}
 use lib.IntN.{ℤ}
+use Rattle.std.proofs.Common.{Option, Some, Ok}
 use Rattle.method.specs.Triangle.{Triangle, n, entry, future_length, reserves_length}
 use Rattle.method.specs.Outstandings.{R, sums}
 use Rattle.method.specs.SumLimits.{SumsInRange}
@@ -18,18 +20,22 @@ use Rattle.method.proofs.QuestionFacts.{Observed, observed_triangle, exposures_p
 use Rattle.method.proofs.Readings.{R_in_range}
 use Rattle.method.proofs.SameRows.{SameRow, same_question_9, same_future, same_reserves}
 use Rattle.method.proofs.SumBounds.{sums_in_range}
-use Rattle.verdicts.specs.Verdicts.{verdict_of}
-use Rattle.list_lengths.specs.declared.AnswerLists.{AnswerLists}
-use Rattle.list_lengths.specs.declared.AnswerLists.TheVariants.{FutureAndReserves}
-use Rattle.questions.specs.Inputs.{lists_right}
+use Rattle.lent.specs.declared.AnswerLengths.{AnswerLengths}
+use Rattle.lent.specs.Triangles.{lists_right}
 use Rattle.questions.proofs.Counted.{lists_have_lengths}
+use Rattle.ratios.specs.declared.Development.{Development}
 use Rattle.ratios.specs.declared.Sums.{Sums}
 use Rattle.ratios.specs.Ratios.{sums_of, sums_at, DevelopmentOf}
-use Rattle.triangle.specs.declared.reading.Reading.{Reading}
-use Rattle.triangle.specs.Reading.{DevelopmentIs, ReadingOf}
-use Rattle.prepared_years.specs.Prepared.{RatiosInRange, YearsPrepared, ratios_of}
-use Rattle.prepared_years.proofs.PreparedYears.{sums_at_place}
-use Rattle.run_off.specs.MethodRead.{method_read, Projectable}
+use Rattle.triangle.specs.Reading.{ReadingOf}
+use Rattle.prepared_years.specs.declared.triangle.PreparedTriangle.{PreparedTriangle}
+use Rattle.prepared_years.specs.Prepared.{ratios_of, Preparable, Prepared}
+use Rattle.run_off.specs.MethodRead.{method_read}
+
+-- a prepared triangle that is this one's: its years, their sums, and its last observed outstandings
+pub record PreparedOf (t : Triangle) (p : PreparedTriangle) : Type 0 where
+  pub n_is : p.n ≡ n t
+  pub sums_are : (k : ℕ) → 1 ≤ k → k < n t → sums_at (ratios_of p.years) k ≡ sums t k
+  pub outstandings_are : (i : ℕ) → 1 ≤ i → i ≤ n t → entry p.outstandings i ≡ R t i (n t + 1 - i)
 
 -- ---- What questions 1 to 8 leave of what was read
 
@@ -49,46 +55,48 @@ module _ {t : Triangle} {ratios : List Sums} {outstandings : List ℤ} (d : Deve
     sums_right : (k : ℕ) → 1 ≤ k → k < n t → SumsInRange (sums t k)
     sums_right k p q = sums_in_range t ok k p q (exposures_positive t q₈ k p q)
 
-    ratios_in_range : RatiosInRange (n t) ratios
-    ratios_in_range = record { most = ok.years.most; year = λ j h. rw (d.year j h) (sums_right (j + 1) (omega arith) h) }
+    preparable : Preparable (n t) ratios outstandings
+    preparable = record {
+      most = ok.years.most;
+      year = λ j h. rw (d.year j h) (sums_right (j + 1) (omega arith) h);
+      outstanding = λ i first last. rw (outstanding_read i first last) (R_in_range t ok i (last_observed (method t) i) first (omega arith));
+    }
 
--- ---- The rows of what was read and prepared
+  -- and of what was prepared
+  prepared_of : {p : PreparedTriangle} → Prepared (n t) ratios outstandings p → PreparedOf t p
+  prepared_of r = record {
+    n_is = r.n_is;
+    sums_are = λ k first last. ap sums_of (r.year (k - 1) (omega arith)) ∙ sums_read k first last;
+    outstandings_are = λ i first last. ap (λ (xs : List ℤ). entry xs i) r.outstandings_are ∙ outstanding_read i first last;
+  }
 
-module _ {t : Triangle} {ratios : List Sums} {outstandings : List ℤ} {before years : List (List ℕ)} (d : DevelopmentOf t ratios outstandings)
-    (p : YearsPrepared (n t) ratios before years) where
-  sums_prepared : (k : ℕ) → 1 ≤ k → k < n t → sums_at (ratios_of years) k ≡ sums t k
-  sums_prepared k first last = ap sums_of (sums_at_place years (k - 1) ∙ (p.prepared (k - 1) (omega arith)).1) ∙ sums_read d k first last
+-- ---- The rows of a triangle that is prepared
 
-  pub rows_as_in_the_triangle : (i : ℕ) → 1 ≤ i → i ≤ n t → SameRow (method_read (n t) (ratios_of years) outstandings) (method t) i
+module _ {t : Triangle} {p : PreparedTriangle} (r : PreparedOf t p) where
+  pub rows_as_in_the_triangle : (i : ℕ) → 1 ≤ i → i ≤ p.n → SameRow (method_read p) (method t) i
   rows_as_in_the_triangle i first last = record {
-    years = refl;
-    observed = outstanding_read d i first last;
-    year = λ k c r. ap (next_year r) (sums_prepared k (omega (arith, c.after, c.row)) c.year);
+    years = r.n_is;
+    observed = r.outstandings_are i first (omega (arith, r.n_is)) ∙ ap (λ (k : ℕ). R t i (k + 1 - i)) (sym r.n_is);
+    year = λ k c x. ap (next_year x) (r.sums_are k (omega (arith, c.after, c.row)) (omega (arith, c.year, r.n_is)));
   }
 
-  pub question_9_as_in_the_triangle : question_9 (method_read (n t) (ratios_of years) outstandings) ≡ question_9 (method t)
-  question_9_as_in_the_triangle = same_question_9 refl rows_as_in_the_triangle
+  question_9_as_in_the_triangle : question_9 (method_read p) ≡ question_9 (method t)
+  question_9_as_in_the_triangle = same_question_9 r.n_is rows_as_in_the_triangle
 
-  pub future_as_in_the_triangle : future (method_read (n t) (ratios_of years) outstandings) ≡ future (method t)
-  future_as_in_the_triangle = same_future refl rows_as_in_the_triangle
+  pub future_as_in_the_triangle : future (method_read p) ≡ future (method t)
+  future_as_in_the_triangle = same_future r.n_is rows_as_in_the_triangle
 
-  pub reserves_as_in_the_triangle : reserves (method_read (n t) (ratios_of years) outstandings) ≡ reserves (method t)
-  reserves_as_in_the_triangle = same_reserves refl rows_as_in_the_triangle
+  pub reserves_as_in_the_triangle : reserves (method_read p) ≡ reserves (method t)
+  reserves_as_in_the_triangle = same_reserves r.n_is rows_as_in_the_triangle
 
-  projectable : Observed t → question_8 t ≡ accepted → Projectable (n t) years outstandings
-  projectable ok q₈ = record {
-    most = ok.years.most;
-    ready = λ j h. (p.prepared j h).0;
-    sums_in_range = λ k first last. rw (sums_prepared k first last) (sums_right d ok q₈ k first last);
-    outstanding_in_range = λ i first last. rw (outstanding_read d i first last) (R_in_range t ok i (last_observed (method t) i) first (omega arith));
-  }
+  -- question 9 completes the verdict
+  pub with_question_9 : (right : Bool) {v : Verdict} → observed_questions t right ≡ accepted → v ≡ question_9 (method_read p) → v ≡ questions t right
+  unfolding questions
+  with_question_9 right passed q = went_on passed (q ∙ question_9_as_in_the_triangle)
 
--- ---- A triangle that was read
+-- ---- A triangle that questions 1 to 8 accept
 
-module _ {t : Triangle} {answers : AnswerLists} {r : Reading} (e : ReadingOf t answers r) (a : verdict_of r.verdict ≡ accepted) where
-  passed : observed_questions t (lists_right t answers) ≡ accepted
-  passed = sym e.verdict_is ∙ a
-
+module _ (t : Triangle) (answers : Option AnswerLengths) (passed : observed_questions t (lists_right t answers) ≡ accepted) where
   both : (input_questions t (lists_right t answers) ≡ accepted) × (question_8 t ≡ accepted)
   unfolding observed_questions
   both = then_accepted (input_questions t (lists_right t answers)) (question_8 t) passed
@@ -100,25 +108,25 @@ module _ {t : Triangle} {answers : AnswerLists} {r : Reading} (e : ReadingOf t a
   pub observed : Observed t
   observed = observed_triangle t (lists_right t answers) (lists_have_lengths t answers) both.0
 
-  pub was_read : DevelopmentOf t r.development.ratios r.development.outstandings
-  unfolding DevelopmentIs
-  was_read = subst (λ (v : Verdict). DevelopmentIs t v r.development) passed e.development_is
-
-  pub can_be_prepared : RatiosInRange (n t) r.development.ratios
-  can_be_prepared = ratios_in_range was_read observed both.1
-
-  module _ {before years : List (List ℕ)} (p : YearsPrepared (n t) r.development.ratios before years) where
-    pub can_be_projected : Projectable (n t) years r.development.outstandings
-    can_be_projected = projectable was_read p observed both.1
-
-    -- with question 9, the verdict of all questions
-    pub with_question_9 : {v : Verdict} → v ≡ question_9 (method_read (n t) (ratios_of years) r.development.outstandings) → v ≡ questions t (lists_right t answers)
-    unfolding questions
-    with_question_9 q = went_on passed (q ∙ question_9_as_in_the_triangle was_read p)
-
 -- the answer lists have their lengths
-pub lists_whole : {t : Triangle} {f r : ℕ} {x : Reading} → ReadingOf t (FutureAndReserves f r) x → verdict_of x.verdict ≡ accepted
-    → (f ≡ future_length (n t)) × (r ≡ reserves_length (n t))
-lists_whole {t} {f} {r} e a =
-    let l = (says_lengths t f r).sound (facts.question_3_said_yes t (lengths_right t f r) (both e a).0) in
+pub lists_whole : (t : Triangle) (answers : AnswerLengths) → observed_questions t (lists_right t (Some answers)) ≡ accepted
+    → (answers.future ≡ future_length (n t)) × (answers.reserves ≡ reserves_length (n t))
+lists_whole t answers passed =
+    let l = (says_lengths t answers.future answers.reserves).sound
+    (facts.question_3_said_yes t (lengths_right t answers.future answers.reserves) (both t (Some answers) passed).0) in
     (l.future, l.reserves)
+
+-- ---- A triangle that is read
+
+module _ {t : Triangle} {answers : Option AnswerLengths} {d : Development} (e : ReadingOf t answers (Ok d)) where
+  pub accepted_reading : observed_questions t (lists_right t answers) ≡ accepted
+  accepted_reading = sym e.verdict_is
+
+  pub years_observed : Observed t
+  years_observed = observed t answers accepted_reading
+
+  pub can_be_prepared : Preparable (n t) d.ratios d.outstandings
+  can_be_prepared = preparable e.development_is years_observed (both t answers accepted_reading).1
+
+  pub prepared_reading : {p : PreparedTriangle} → Prepared (n t) d.ratios d.outstandings p → PreparedOf t p
+  prepared_reading r = prepared_of e.development_is r

@@ -1,3 +1,4 @@
 -- What the contracts of this crate say, in the words of the crate `method`.
 pub mod MethodRead
+pub mod Reading
 pub mod Rows

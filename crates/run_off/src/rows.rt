@@ -1,153 +1,104 @@
 // An accident year's row, into a list or without one, and question 9 of all rows.
 // What the loops keep is said in proofs: `RowSoFar` in ProjectedYears.antt, `WrittenSoFar` in RowAnswers.antt, and of rows
 // `PassedSoFar` in FirstRefusal.antt of the crate `method`.
-ghost use Rattle.std.specs.Prelude.{◌≡◌, [], ◌∷◌, ◌+◌, ◌*◌, ◌-◌, ◌≤◌, ◌<◌, pos, length, replicate};
-ghost use Rattle.std.proofs.lemmas.List.Edits.{sets};
-ghost use Rattle.method.specs.Limits.{most_accident_years};
+ghost use Rattle.std.specs.Prelude.{◌≡◌, ℕ, Option, Some, None, [], ◌∷◌, ◌+◌, ◌*◌, ◌-◌};
 ghost use Rattle.method.specs.AnswerPlaces.{AccidentYear};
 ghost use Rattle.method.specs.Questions.{question_9};
-ghost use Rattle.method.specs.Verdicts.{at};
-ghost use Rattle.method.specs.Verdicts as meaning;
-ghost use Rattle.verdicts.specs.declared.verdict.Verdict.TheVariants.{Accepted};
 ghost use Rattle.verdicts.specs.Verdicts.{verdict_of};
-ghost use Rattle.prepared_years.specs.Prepared.{ratios_of};
-ghost use Rattle.run_off.specs.MethodRead.{method_read, Projectable};
-ghost use Rattle.run_off.specs.Rows.{figures_answered, RowProjected, RowWritten};
+ghost use Rattle.run_off.specs.MethodRead.{method_read};
+ghost use Rattle.run_off.specs.Rows.{RoomFrom, written_from, RowWritten};
 
 use lists::write_three;
-use prepared_years::NUMBERS_OF_A_YEAR;
-use projection::{Movement, ProjectedYear};
-use row_states::{RowState, first_state, with_year, year_after};
+use prepared_years::triangle::PreparedTriangle;
+use projection::Movement;
+use row_states::RowState;
 use share::millionths::Millionths;
-use verdicts::limits::{ACCIDENT_YEARS, DEVELOPMENT_YEARS};
-use verdicts::verdict::{Verdict, refusal_at};
+use verdicts::verdict::{Question, Refusal, Verdict, refusal_at};
 
-// The verdict of question 9 on an accident year, its reserves, and the payment of its first projected year; zeros where it is refused.
-// Accident year 1 has no projected year, and 0 for its payment.
+// The reserves of an accident year, and the payment of its first projected year: 0 for accident year 1, which has none.
 #[derive(Clone, Copy)]
 pub struct ProjectedRow {
-    pub verdict: Verdict,
     pub paid: Millionths,
     pub incurred: Millionths,
     pub closing: Millionths,
     pub first_payment: Millionths,
 }
 
+// Where the figures of the projected years of an accident year go.
+pub trait Destination: Copy {
+    // the place of a list that they begin at, if they are written
+    ghost start: { Self → Option ℕ };
+
+    // Stores the figures of the year after these projected ones.
+    fn write(self, list: &mut [i64], projected: usize, movement: Movement)
+        requires { RoomFrom (start self) (3 * projected + 3) list.old }
+        ensures { list.new ≡ written_from (start self) (3 * projected) (movement.payment.0 ∷ movement.adjustment.0 ∷ movement.outstanding.0 ∷ []) list.old };
+}
+
+// They are not written.
+#[derive(Clone, Copy)]
+pub struct Nowhere;
+
+impl Destination for Nowhere {
+    ghost start = { λ _. None };
+
+    fn write(self, _list: &mut [i64], _projected: usize, _movement: Movement) {}
+}
+
+// Into the list, from this place on.
+#[derive(Clone, Copy)]
+pub struct IntoList(pub usize);
+
+impl Destination for IntoList {
+    ghost start = { λ it. Some it.0 };
+
+    fn write(self, list: &mut [i64], projected: usize, movement: Movement) {
+        write_three(
+            list,
+            self.0 + 3 * projected,
+            movement.payment.0,
+            movement.adjustment.0,
+            movement.outstanding.0,
+        );
+    }
+}
+
 // Projects accident year i from its last observed outstanding, up to the first refusal of question 9.
-pub fn project_row<'a>(
-    n: usize,
+// Where the figures of its projected years are written, those before a refusal stay. No other place of the list is touched.
+pub fn project_row<D: Destination>(
+    triangle: &PreparedTriangle,
     i: usize,
-    years: &'a [[u64; NUMBERS_OF_A_YEAR]; DEVELOPMENT_YEARS],
-    outstandings: &'a [i64; ACCIDENT_YEARS],
-) -> ProjectedRow
-    requires { Projectable n years.now outstandings.now × AccidentYear n i }
-    ensures { RowProjected (method_read n (ratios_of years.now) outstandings.now) i result }
-{
-    let mut state = first_state(i, outstandings);
-    while state.projected + 1 < i {
-        let year = year_after(n, i, years, state);
-        let ProjectedYear::Within(movement) = year else {
-            return refused_row(n, i, state.projected);
-        };
-        state = with_year(state, movement);
-    }
-    accepted_row(state)
-}
-
-// The same, and writes the three figures of each projected year from a place of the list on.
-// Where question 9 refuses a year, those before it stay written. No other place of the list is touched.
-pub fn project_row_into<'a>(
-    n: usize,
-    i: usize,
-    years: &'a [[u64; NUMBERS_OF_A_YEAR]; DEVELOPMENT_YEARS],
-    outstandings: &'a [i64; ACCIDENT_YEARS],
     list: &mut [i64],
-    start: usize,
-) -> ProjectedRow
-    requires projectable { Projectable n years.now outstandings.now × AccidentYear n i }
-    requires i_in_bounds { start + 3 * (i - 1) ≤ length list.old }
-    ensures { RowWritten (method_read n (ratios_of years.now) outstandings.now) i start list.old result list.new }
+    destination: D,
+) -> Result<ProjectedRow, Refusal>
+    requires i_in_triangle { AccidentYear triangle.now.n i }
+    requires i_in_bounds { RoomFrom (D.start destination) (3 * (i - 1)) list.old }
+    ensures { RowWritten (method_read triangle.now) i (D.start destination) list.old result list.new }
 {
-    let mut state = first_state(i, outstandings);
-    while state.projected + 1 < i {
-        let year = year_after(n, i, years, state);
-        let ProjectedYear::Within(movement) = year else {
-            return refused_row(n, i, state.projected);
+    let mut state = RowState::first(triangle, i);
+    for projected in 0..i - 1 {
+        let Some(movement) = state.next_year(triangle, i) else {
+            let k = triangle.n - i + projected + 2;
+            return Err(refusal_at(Question::ProjectedFigure, i, k));
         };
-        write_movement(list, start + 3 * state.projected, movement);
-        state = with_year(state, movement);
+        destination.write(list, projected, movement);
+        state = state.with_year(movement);
     }
-    accepted_row(state)
+    Ok(ProjectedRow {
+        paid: state.paid,
+        incurred: state.incurred,
+        closing: state.outstanding,
+        first_payment: state.first_payment,
+    })
 }
 
-// The first refusal of question 9 in any accident year, if there is one, for calls that write no figure: each row is projected without a list.
-// The call that fills both lists asks it as it writes, in `project`.
-pub fn question_9<'a>(
-    n: usize,
-    years: &'a [[u64; NUMBERS_OF_A_YEAR]; DEVELOPMENT_YEARS],
-    outstandings: &'a [i64; ACCIDENT_YEARS],
-) -> Verdict
-    requires { Projectable n years.now outstandings.now }
-    ensures { verdict_of result ≡ question_9 (method_read n (ratios_of years.now) outstandings.now) }
+// The first refusal of question 9 in any accident year, if there is one, for calls that write no figure.
+// The call that fills both lists asks it as it writes, in `project`. It is no method, since the struct of a prepared triangle lies in a crate below.
+pub fn question_9(triangle: &PreparedTriangle) -> Verdict
+    ensures { verdict_of result ≡ question_9 (method_read triangle.now) }
 {
-    let mut r = 0;
-    while r < n {
-        let row = project_row(n, r + 1, years, outstandings);
-        let verdict = row.verdict;
-        let Verdict::Accepted = verdict else {
-            return verdict;
-        };
-        r += 1;
+    for r in 0..triangle.n {
+        project_row(triangle, r + 1, &mut [], Nowhere)?;
     }
-    Verdict::Accepted
-}
-
-// Stores the three figures of a projected year from a place of the list on.
-fn write_movement(list: &mut [i64], at: usize, movement: Movement)
-    requires { at + 3 ≤ length list.old }
-    ensures { list.new ≡ sets list.old at (movement.payment.0 ∷ movement.adjustment.0 ∷ movement.outstanding.0 ∷ []) }
-{
-    write_three(
-        list,
-        at,
-        movement.payment.0,
-        movement.adjustment.0,
-        movement.outstanding.0,
-    );
-}
-
-fn accepted_row(state: RowState) -> ProjectedRow
-    ensures { result ≡ record {
-      verdict = Accepted;
-      paid = state.paid;
-      incurred = state.incurred;
-      closing = state.outstanding;
-      first_payment = state.first_payment;
-    } }
-{
-    let paid = state.paid;
-    let incurred = state.incurred;
-    let closing = state.outstanding;
-    let first_payment = state.first_payment;
-    ProjectedRow {
-        verdict: Verdict::Accepted,
-        paid: paid,
-        incurred: incurred,
-        closing: closing,
-        first_payment: first_payment,
-    }
-}
-
-// The row whose year after these projected ones is refused.
-fn refused_row(n: usize, i: usize, projected: usize) -> ProjectedRow
-    requires { (i ≤ n) × (n ≤ most_accident_years) × (projected + 1 < i) }
-    ensures { (verdict_of result.verdict ≡ meaning.refused 9 (at i (n - i + projected + 2))) × (figures_answered result ≡ replicate 4 (pos 0)) }
-{
-    ProjectedRow {
-        verdict: refusal_at(9, i, n - i + projected + 2),
-        paid: Millionths(0),
-        incurred: Millionths(0),
-        closing: Millionths(0),
-        first_payment: Millionths(0),
-    }
+    Ok(())
 }

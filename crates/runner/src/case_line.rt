@@ -7,82 +7,54 @@ use crate::numbers::read_numbers;
 use crate::printing::print;
 use crate::reserve_call::try_reserve;
 use crate::row_call::try_row;
-use line_parts::cells::field;
+use lent::Triangle;
+use line_parts::cells::Text;
 use rows::AmountList;
 
 // Prints what is tried, and what its call answers.
 pub(crate) fn work(rt: &impl Print, line: &[u8]) {
-    print(rt, field(line, b'|', 1));
+    let fields = Text {
+        bytes: line,
+        separator: b'|',
+    };
+    print(rt, fields.field(1));
     print(rt, b": ");
-    with_lists(rt, line);
+    try_case(rt, fields);
     print(rt, b"\n");
 }
 
-// Reads the four lent lists.
-fn with_lists(rt: &impl Print, line: &[u8]) {
+// Reads what is lent, and the numbers of the last field, which mean what the call takes them for; 0 where a field has fewer.
+fn try_case(rt: &impl Print, fields: Text<'_>) {
     let mut payments = [0; 561];
     let mut adjustments = [0; 561];
     let mut weights = [0; 528];
     let mut openings = [0; 32];
-    let payments_end = read_numbers(rt, field(line, b'|', 3), &mut payments);
-    let adjustments_end = read_numbers(rt, field(line, b'|', 4), &mut adjustments);
-    let weights_end = read_numbers(rt, field(line, b'|', 5), &mut weights);
-    let openings_end = read_numbers(rt, field(line, b'|', 6), &mut openings);
-    call(
-        rt,
-        line,
-        &payments[0..payments_end],
-        &adjustments[0..adjustments_end],
-        &weights[0..weights_end],
-        &openings[0..openings_end],
-    );
-}
-
-// The first letter tells the call.
-fn call<'a>(
-    rt: &impl Print,
-    line: &[u8],
-    payments: &'a [i64],
-    adjustments: &'a [i64],
-    weights: &'a [i64],
-    openings: &'a [i64],
-) {
-    let asked = asked_of(rt, line);
-    let kind = kind_of(line);
-    match kind {
-        b'r' => try_reserve(rt, asked, payments, adjustments, weights, openings),
-        b'c' => try_cell(rt, asked, payments, adjustments, weights, openings),
-        b'p' => try_row(rt, asked, payments, adjustments, AmountList::Payments),
-        b'a' => try_row(rt, asked, payments, adjustments, AmountList::Adjustments),
-        _ => print(rt, b"no such call"),
-    }
-}
-
-fn kind_of(line: &[u8]) -> u8 {
-    if line.len() == 0 { 0 } else { line[0] }
-}
-
-// The numbers of a case that are in no list: n, Y, and those of the last field, which mean what the call takes them for.
-#[derive(Clone, Copy)]
-pub(crate) struct Asked {
-    pub(crate) years: i64,
-    pub(crate) cut: i64,
-    pub(crate) first: i64,
-    pub(crate) second: i64,
-    pub(crate) third: i64,
-}
-
-// 0 where a field has fewer numbers.
-fn asked_of(rt: &impl Print, line: &[u8]) -> Asked {
     let mut size = [0; 2];
     let mut last = [0; 3];
-    read_numbers(rt, field(line, b'|', 2), &mut size);
-    read_numbers(rt, field(line, b'|', 7), &mut last);
-    Asked {
+    let payments_end = read_numbers(rt, fields.field(3), &mut payments);
+    let adjustments_end = read_numbers(rt, fields.field(4), &mut adjustments);
+    let weights_end = read_numbers(rt, fields.field(5), &mut weights);
+    let openings_end = read_numbers(rt, fields.field(6), &mut openings);
+    read_numbers(rt, fields.field(2), &mut size);
+    read_numbers(rt, fields.field(7), &mut last);
+    let triangle = Triangle {
         years: size[0],
         cut: size[1],
-        first: last[0],
-        second: last[1],
-        third: last[2],
+        payments: &payments[..payments_end],
+        adjustments: &adjustments[..adjustments_end],
+        weights: &weights[..weights_end],
+        openings: &openings[..openings_end],
+    };
+    call(rt, fields.bytes, triangle, last);
+}
+
+// The first letter of a line tells the call.
+fn call(rt: &impl Print, line: &[u8], triangle: Triangle<'_>, last: [i64; 3]) {
+    match line.first() {
+        Some(b'r') => try_reserve(rt, triangle, last),
+        Some(b'c') => try_cell(rt, triangle, last),
+        Some(b'p') => try_row(rt, triangle, AmountList::Payments, last[0]),
+        Some(b'a') => try_row(rt, triangle, AmountList::Adjustments, last[0]),
+        _ => print(rt, b"no such call"),
     }
 }

@@ -1,52 +1,40 @@
 // One unseen cell alone.
-use crate::case_line::Asked;
 use crate::printing::{print_amount, print_verdict, print_whether};
+use juniperprow::juniperprow_single_cell;
+use lent::Triangle;
 use single_cell::single_cell;
-use verdicts::verdict::Verdict;
 
-// Prints the verdict, and the cell's figures or whether they are zeros.
-pub(crate) fn try_cell<'a>(
-    rt: &impl Print,
-    asked: Asked,
-    payments: &'a [i64],
-    adjustments: &'a [i64],
-    weights: &'a [i64],
-    openings: &'a [i64],
-) {
-    let cell = single_cell(
-        asked.years,
-        asked.cut,
-        payments,
-        adjustments,
-        weights,
-        openings,
-        asked.first,
-        asked.second,
-    );
-    let verdict = cell.verdict;
-    print_verdict(rt, verdict);
-    print_figures(
-        rt,
-        verdict,
-        cell.payment.0,
-        cell.adjustment.0,
-        cell.outstanding.0,
-    );
+// Prints the verdict, and the cell's figures or whether a host is refused too and handed zeros.
+pub(crate) fn try_cell(rt: &impl Print, triangle: Triangle<'_>, last: [i64; 3]) {
+    let [accident_year, development_year, _] = last;
+    match single_cell(triangle, accident_year, development_year) {
+        Ok(figures) => {
+            print_verdict(rt, Ok(()));
+            print_amount(rt, b", payment ", figures.payment.0);
+            print_amount(rt, b", adjustment ", figures.adjustment.0);
+            print_amount(rt, b", outstanding ", figures.outstanding.0);
+        }
+        Err(refusal) => {
+            print_verdict(rt, Err(refusal));
+            let zeros = refused_with_zeros(triangle, accident_year, development_year);
+            print_whether(rt, zeros, b"all zeros");
+        }
+    }
 }
 
-fn print_figures(
-    rt: &impl Print,
-    verdict: Verdict,
-    payment: i64,
-    adjustment: i64,
-    outstanding: i64,
-) {
-    let Verdict::Accepted = verdict else {
-        let zeros = (payment == 0) & (adjustment == 0) & (outstanding == 0);
-        print_whether(rt, zeros, b"all zeros");
-        return;
-    };
-    print_amount(rt, b", payment ", payment);
-    print_amount(rt, b", adjustment ", adjustment);
-    print_amount(rt, b", outstanding ", outstanding);
+fn refused_with_zeros(triangle: Triangle<'_>, accident_year: i64, development_year: i64) -> bool {
+    let cell = juniperprow_single_cell(
+        triangle.years,
+        triangle.cut,
+        triangle.payments,
+        triangle.adjustments,
+        triangle.weights,
+        triangle.openings,
+        accident_year,
+        development_year,
+    );
+    (cell.verdict.number != 0)
+        & (cell.payment == 0)
+        & (cell.adjustment == 0)
+        & (cell.outstanding == 0)
 }

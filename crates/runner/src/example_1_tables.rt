@@ -1,5 +1,8 @@
 // Tables of Example 1 of the 2008 paper.
 
+// Where the row of each accident year starts in both triangles.
+pub(crate) const ROW_STARTS: [usize; 10] = [0, 10, 19, 27, 34, 40, 45, 49, 52, 54];
+
 // Table 4: payments, cumulated, in units.
 pub(crate) const CUMULATED_PAYMENTS: [i64; 55] = [
     // Accident year 1.

@@ -13,7 +13,6 @@ mod row_call;
 
 use std::io;
 use std::io::Read;
-use text::search::{Sought, find};
 
 // What is read at most.
 const LONGEST_TEXT: u64 = 65_536;
@@ -29,10 +28,7 @@ fn main(rt: HostRuntime) -> io::Result<()> {
 }
 
 fn work_lines(rt: &impl Print, cases: &[u8]) {
-    let mut start = 0;
-    while start < cases.len() {
-        let end = start + find(&cases[start..], Sought::Byte(b'\n'));
-        case_line::work(rt, &cases[start..end]);
-        start = end + 1;
+    for line in cases.split_inclusive(|byte| *byte == b'\n') {
+        case_line::work(rt, line.strip_suffix(b"\n").unwrap_or(line));
     }
 }

@@ -1,6 +1,6 @@
 // What is printed: texts, numbers, amounts and verdicts.
 use verdicts::verdict::Verdict;
-use written_figures::writing::{Written, amount, whole};
+use written_figures::writing::{amount, whole};
 
 // A write that fails is passed over: whoever compares what was printed sees it.
 pub(crate) fn print(rt: &impl Print, text: &[u8]) {
@@ -10,35 +10,23 @@ pub(crate) fn print(rt: &impl Print, text: &[u8]) {
 // A text, and a number after it.
 pub(crate) fn print_number(rt: &impl Print, text: &[u8], number: i64) {
     print(rt, text);
-    print_written(rt, whole(number));
+    print(rt, whole(number).text());
 }
 
 // A text, and millionths in units with six decimals.
 pub(crate) fn print_amount(rt: &impl Print, text: &[u8], millionths: i64) {
     print(rt, text);
-    print_written(rt, amount(millionths));
-}
-
-// A number stands at the end of its bytes.
-fn print_written(rt: &impl Print, written: Written) {
-    let bytes = written.bytes;
-    print_last(rt, &bytes, written.width);
-}
-
-fn print_last(rt: &impl Print, bytes: &[u8], width: usize) {
-    if width <= bytes.len() {
-        print(rt, &bytes[bytes.len() - width..]);
-    }
+    print(rt, amount(millionths).text());
 }
 
 // The number and the place of a refusal.
 pub(crate) fn print_verdict(rt: &impl Print, verdict: Verdict) {
     match verdict {
-        Verdict::Accepted => print(rt, b"accepted"),
-        Verdict::Refused(question, place) => {
-            print_number(rt, b"refused by ", question as i64);
-            print_number(rt, b" at (", place.accident_year);
-            print_number(rt, b", ", place.development_year);
+        Ok(()) => print(rt, b"accepted"),
+        Err(refusal) => {
+            print_number(rt, b"refused by ", i64::from(refusal.question.number()));
+            print_number(rt, b" at (", refusal.place.accident_year);
+            print_number(rt, b", ", refusal.place.development_year);
             print(rt, b")");
         }
     }

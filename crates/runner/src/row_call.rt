@@ -1,31 +1,30 @@
 // One accident year's row.
-use crate::case_line::Asked;
 use crate::printing::{print, print_number, print_verdict, print_whether};
+use lent::Triangle;
 use rows::{AmountList, row, row_verdict};
-use verdicts::verdict::Verdict;
 
 // Prints the verdict, and the row or whether it is empty.
-pub(crate) fn try_row<'a>(
+pub(crate) fn try_row(
     rt: &impl Print,
-    asked: Asked,
-    payments: &'a [i64],
-    adjustments: &'a [i64],
+    triangle: Triangle<'_>,
     named: AmountList,
+    accident_year: i64,
 ) {
-    let numbers = row(asked.years, payments, adjustments, named, asked.first);
-    let verdict = row_verdict(asked.years, payments, adjustments, named, asked.first);
+    let years = triangle.years;
+    let payments = triangle.payments;
+    let adjustments = triangle.adjustments;
+    let numbers = row(years, payments, adjustments, named, accident_year);
+    let verdict = row_verdict(years, payments, adjustments, named, accident_year);
     print_verdict(rt, verdict);
     match verdict {
-        Verdict::Accepted => print_numbers(rt, numbers),
-        Verdict::Refused(_, _) => print_whether(rt, numbers.len() == 0, b"empty"),
+        Ok(()) => print_numbers(rt, numbers),
+        Err(_) => print_whether(rt, numbers.is_empty(), b"empty"),
     }
 }
 
 fn print_numbers(rt: &impl Print, numbers: &[i64]) {
     print(rt, b",");
-    let mut j = 0;
-    while j < numbers.len() {
-        print_number(rt, b" ", numbers[j]);
-        j += 1;
+    for number in numbers {
+        print_number(rt, b" ", *number);
     }
 }

@@ -1,13 +1,13 @@
 -- The quotient of a product by a prepared fraction is the cut one or one less, so that what it leaves is known by lower halves alone.
-use Rattle.std.proofs.Common.{◌≡◌, ℕ, ◌+◌, ◌*◌, ◌/◌, ◌%◌, ◌^◌, ◌<◌, ◌≤◌, pos, ◌-ℤ◌, mul-le-mul_right, lt_of_mul-lt-mul_right, mul-le-mul_left, arith, w64, Fits, SFits}
+use Rattle.std.proofs.Common.{◌≡◌, ℕ, ◌+◌, ◌-◌, ◌*◌, ◌/◌, ◌%◌, ◌^◌, ◌<◌, ◌≤◌, pos, ◌-ℤ◌, mul-le-mul_right, lt_of_mul-lt-mul_right, mul-le-mul_left, arith, w64, SFits}
 use Rattle.integers.proofs.RingSolver.{con, ◌:+◌, ◌:-◌, ◌:*◌, neg}
 use Rattle.integers.proofs.LinearFacts.{≡-by, ≤ℤ-by, <ℤ-by, fits_by}
 use Rattle.integers.proofs.Estimates.{estimate-≤, estimate-<}
 use Rattle.share.specs.NearestQuotient.{NearestInput, NearestQuotient, RoundedUp}
 
 -- a difference is known by the lower halves of both numbers
-wrapped : (x y left : ℕ) → y ≤ x → x < y + 2 ^ 64 → left < 2 ^ 64 → (left + y % 2 ^ 64) % 2 ^ 64 ≡ x % 2 ^ 64 → left + y ≡ x
-wrapped x y left h k l e = omega arith
+wrapped : (x y : ℕ) → y ≤ x → x < y + 2 ^ 64 → (x % 2 ^ 64 + (2 ^ 64 - y % 2 ^ 64)) % 2 ^ 64 + y ≡ x
+wrapped x y h k = omega arith
 
 module _ {outstanding remainder fraction exposure : ℕ} (i : NearestInput outstanding remainder fraction exposure) where
   abbrev pub estimate : ℕ
@@ -21,14 +21,20 @@ module _ {outstanding remainder fraction exposure : ℕ} (i : NearestInput outst
   product-< =
       omega (arith, estimate-< (2 ^ 64) remainder exposure fraction 64 (2 * outstanding) (2 * estimate + 1) 1 i.exposed.positive (omega (arith, i.fraction_of.high)) (omega arith) (omega arith))
 
-  pub left_exact : (left : ℕ) → left < 2 ^ 64 → (left + estimate * exposure % 2 ^ 64) % 2 ^ 64 ≡ outstanding * remainder % 2 ^ 64
-      → (left + estimate * exposure ≡ outstanding * remainder) × (2 * left < 3 * exposure)
-  left_exact left l e = (exact, omega (arith, exact, product-<))
-    where
-      exact : left + estimate * exposure ≡ outstanding * remainder
-      exact = wrapped (outstanding * remainder) (estimate * exposure) left taken-≤ (omega (arith, product-<)) l e
+  -- what the estimate leaves, by lower halves
+  abbrev pub left : ℕ
+  left = (outstanding * remainder % 2 ^ 64 + (2 ^ 64 - estimate * exposure % 2 ^ 64)) % 2 ^ 64
 
-  module _ {left up : ℕ} (exact : left + estimate * exposure ≡ outstanding * remainder) (l : 2 * left < 3 * exposure) (u : RoundedUp left exposure up) where
+  exact : left + estimate * exposure ≡ outstanding * remainder
+  exact = wrapped (outstanding * remainder) (estimate * exposure) taken-≤ (omega (arith, product-<))
+
+  pub left-few : 2 * left < 3 * exposure
+  left-few = omega (arith, exact, product-<)
+
+  pub left-< : left < 2 ^ 63
+  left-< = omega (arith, left-few, i.exposed.most)
+
+  module _ {up : ℕ} (u : RoundedUp left exposure up) where
     quotient-≤ : estimate + up ≤ outstanding
     quotient-≤ = le_of_lt_suc (lt_of_mul-lt-mul_right exposure {m = estimate + up} {n = outstanding + 1} (omega (arith, exact, u.low, mul-le-mul_left outstanding i.below)))
       where
@@ -38,19 +44,13 @@ module _ {outstanding remainder fraction exposure : ℕ} (i : NearestInput outst
     up-≤ : up * exposure ≤ exposure
     up-≤ = omega (arith, mul-le-mul_right exposure u.most)
 
-    pub quotient_fits : Fits w64 (estimate + up)
-    quotient_fits = record { fits = omega (arith, quotient-≤, i.outstanding_most) }
-
-    pub left-< : left < 2 ^ 63
-    left-< = omega (arith, i.exposed.most)
-
     pub up-< : up * exposure < 2 ^ 63
     up-< = omega (arith, up-≤, i.exposed.most)
 
     pub leftover_fits : SFits w64 (pos left -ℤ pos (up * exposure))
-    leftover_fits = fits_by w64 (con (pos left) :- con (pos (up * exposure))) (omega (arith, up-≤, i.exposed.most))
+    leftover_fits = fits_by w64 (con (pos left) :- con (pos (up * exposure))) (omega (arith, left-few, up-≤, i.exposed.most))
 
-    pub nearest_quotient : NearestQuotient outstanding remainder exposure (record { quotient = estimate + up; leftover = pos left -ℤ pos (up * exposure) })
+    pub nearest_quotient : NearestQuotient outstanding remainder exposure (record { quotient = estimate + up; left = pos left -ℤ pos (up * exposure) })
     nearest_quotient = record {
       exact = ≡-by (con (pos (outstanding * remainder))) (con (pos ((estimate + up) * exposure)) :+ (con (pos left) :- con (pos (up * exposure)))) (omega (arith, exact));
       low = ≤ℤ-by (neg (con (pos exposure))) (con (pos 2) :* (con (pos left) :- con (pos (up * exposure)))) (omega (arith, u.low));

@@ -11,65 +11,50 @@ ghost use Rattle.share.specs.NearestQuotient.{NearestInput, NearestQuotient, Rou
 pub mod millionths;
 
 use millionths::Millionths;
-use prepared_ratios::Ratio;
+use prepared_ratios::{Divided, Ratio};
 use products::{high_product, low_product};
 use verdicts::limits::{GREATEST_FIGURE, from_to};
 
-// A rounded share, or that its size passes the limit of question 9.
-#[derive(Clone, Copy)]
-pub enum Share {
-    Rounded(Millionths),
-    TooLarge,
-}
-
-// outstanding × part / exposure, rounded half up, by the ratio that was prepared from the part; or that its size passes the limit of question 9.
+// outstanding × part / exposure, rounded half up, by the ratio that was prepared from the part; `None` where its size passes the limit of question 9.
 // As part = quotient × exposure + remainder, it is outstanding × quotient and the share of the remainder, which has no sign: a negative part needs no case.
-pub fn rounded_share(outstanding: Millionths, ratio: Ratio, exposure: u64) -> Share
+pub fn rounded_share(outstanding: Millionths, ratio: Ratio, exposure: u64) -> Option<Millionths>
     requires { ShareInput outstanding.0 ratio exposure }
     ensures { result ≡ share_or_too_large (share outstanding.0 (part_of ratio exposure) (pos exposure)) }
 {
     let size = outstanding.0 as u64;
-    // Its leftover is that of the whole share: outstanding × part = share × exposure + leftover.
+    // What it leaves is what the whole share leaves: outstanding × part = share × exposure + nearest.left.
     let nearest = nearest_quotient(size, ratio.remainder, ratio.fraction, exposure);
     if size > ratio.reach {
-        return Share::TooLarge;
+        return None;
     }
     limited(outstanding.0 * ratio.quotient + (nearest.quotient as i64))
 }
 
-// A share of this value, or that its size passes the limit of question 9.
-fn limited(value: i64) -> Share
+// A share of this value, where its size is within the limit of question 9.
+fn limited(value: i64) -> Option<Millionths>
     ensures { result ≡ share_or_too_large value }
 {
-    if from_to(-GREATEST_FIGURE, GREATEST_FIGURE, value) {
-        return Share::Rounded(Millionths(value));
-    }
-    Share::TooLarge
+    from_to(-GREATEST_FIGURE, GREATEST_FIGURE, value).then_some(Millionths(value))
 }
 
-// A quotient rounded half up, and what it leaves of its dividend: from −exposure / 2 to below exposure / 2.
-#[derive(Clone, Copy)]
-struct Nearest {
-    quotient: u64,
-    leftover: i64,
-}
-
-// outstanding × remainder / exposure, rounded half up.
+// outstanding × remainder / exposure, rounded half up: what that leaves is from −exposure / 2 to below exposure / 2.
 // Multiplication by the fraction gives an estimate that is less than 1 + 1/2 too little, so that one correction rounds it half up.
 // What it leaves of the product is below two exposures, and so the lower halves of both products tell it exactly.
-fn nearest_quotient(outstanding: u64, remainder: u64, fraction: u64, exposure: u64) -> Nearest
+fn nearest_quotient(
+    outstanding: u64,
+    remainder: u64,
+    fraction: u64,
+    exposure: u64,
+) -> Divided<u64, i64>
     requires { NearestInput outstanding remainder fraction exposure }
     ensures { NearestQuotient outstanding remainder exposure result }
 {
     let estimate = high_product(outstanding, fraction);
-    let left = std::num::wrapping_sub_u64(
-        low_product(outstanding, remainder),
-        low_product(estimate, exposure),
-    );
+    let left = low_product(outstanding, remainder).wrapping_sub(low_product(estimate, exposure));
     let up = rounded_up(left, exposure);
-    Nearest {
+    Divided {
         quotient: estimate + up,
-        leftover: (left as i64) - (up * exposure) as i64,
+        left: (left as i64) - (up * exposure) as i64,
     }
 }
 
@@ -78,5 +63,5 @@ fn rounded_up(left: u64, exposure: u64) -> u64
     requires { (2 * left < 3 * exposure) × (exposure ≤ greatest_sum) }
     ensures { RoundedUp left exposure result }
 {
-    if exposure <= 2 * left { 1 } else { 0 }
+    u64::from(exposure <= 2 * left)
 }

@@ -1,12 +1,12 @@
 -- A part and an exposure within their limits, as a ratio is prepared from.
 use mathlib.Core.Path.{◌≡◌}
 use mathlib.Core.Bool.{true}
-use Prim.Native.Nat.{◌≤◌}
 use native.Mathlib.Omega.{arith}
 use lib.IntN.{ℤ, pos, neg_ℤ, nat_abs}
 use lib.Signed.{◌≤ℤ◌, ◌<ℤ◌}
+use Rattle.integers.proofs.CommutativeRing.{<ℤ→≤ℤ}
 use Rattle.integers.proofs.LinearFacts.{integers}
-use Rattle.integers.proofs.Order.{nat_abs-≤}
+use Rattle.integers.proofs.Order.{size_of_nonneg}
 use Rattle.method.specs.SumLimits.{greatest_sum}
 use Rattle.method.specs.Tests.{from_to}
 use Rattle.method.proofs.Tests.{and-true, from_to_true}
@@ -19,11 +19,8 @@ module _ (part exposure : ℤ) (h : in_limits part exposure ≡ true) where
   range : (pos 1 ≤ℤ exposure) × (exposure ≤ℤ pos greatest_sum)
   range = from_to_true (pos 1) (pos greatest_sum) exposure both.1
 
-  pub part_size : nat_abs part ≤ greatest_sum
-  part_size = (nat_abs-≤ part greatest_sum).1 (from_to_true (neg_ℤ (pos greatest_sum)) (pos greatest_sum) part both.0)
-
   pub exposure_positive : pos 0 <ℤ exposure
   exposure_positive = omega (arith, integers, range.0)
 
-  pub exposure_most : exposure ≤ℤ pos greatest_sum
-  exposure_most = range.1
+  pub exposure_is : pos (nat_abs exposure) ≡ exposure
+  exposure_is = size_of_nonneg exposure (<ℤ→≤ℤ exposure_positive)

@@ -1,21 +1,20 @@
 -- What the benchmark's calls for shares answer.
-use Rattle.std.specs.Prelude.{Bool, true, false, ◌&&◌, List, map, ℕ, ℤ, pos, neg_ℤ}
+use Rattle.std.specs.Prelude.{Bool, true, false, ◌&&◌, List, map, ℕ, ℤ, pos, neg_ℤ, Option, Some, None}
 use Rattle.method.specs.SumLimits.{greatest_sum}
 use Rattle.method.specs.Limits.{greatest_figure}
 use Rattle.method.specs.ProjectedYear.{share}
 use Rattle.method.specs.Tests.{from_to}
 use Rattle.share.specs.Share.{share_or_too_large}
 use Rattle.prepared_ratios.specs.declared.Ratio.{Ratio}
-use Rattle.share.specs.declared.Share.{Share}
-use Rattle.share.specs.declared.Share.TheVariants.{Rounded, TooLarge}
+use Rattle.share.specs.declared.millionths.Millionths.{Millionths}
 
 abbrev pub ratio_by_numbers : ℤ → ℕ → ℕ → ℕ → Ratio
 ratio_by_numbers quotient remainder fraction reach = record { quotient = quotient; remainder = remainder; fraction = fraction; reach = reach }
 
 -- the number that stands for a share: one beyond every share where it is too large
-abbrev pub as_number : Share → ℤ
-as_number (Rounded x) = x.0
-as_number TooLarge = pos 9_223_372_036_854_775_807
+abbrev pub as_number : Option Millionths → ℤ
+as_number (Some x) = x.0
+as_number None = pos 9_223_372_036_854_775_807
 
 -- the number that stands in the place of an outstanding
 unfoldable pub share_number : ℤ → ℤ → ℤ → ℤ

@@ -7,10 +7,10 @@ ghost use Rattle.prepared_ratios.specs.Ratio.{Ready, part_of};
 ghost use Rattle.share.specs.Share.{ShareInput, share_or_too_large};
 ghost use Rattle.share_benchmark.specs.Shares.{ratio_by_numbers, as_number, share_number, shares_answer, shares_of};
 
-use prepared_ratios::{Ratio, ratio_of, reciprocal_of};
+use prepared_ratios::{Divisor, Ratio};
 use products::{high_product, low_product};
 use share::millionths::Millionths;
-use share::{Share, rounded_share};
+use share::rounded_share;
 use verdicts::limits::{GREATEST_FIGURE, GREATEST_SUM, from_to};
 
 // u × v / 2^64, cut.
@@ -43,29 +43,25 @@ pub extern "C" fn juniperprow_share(
     ensures { result ≡ as_number (share_or_too_large (share outstanding (part_of (ratio_by_numbers quotient remainder fraction reach) exposure) (pos exposure))) }
 {
     let ratio = Ratio {
-        quotient: quotient,
-        remainder: remainder,
-        fraction: fraction,
-        reach: reach,
+        quotient,
+        remainder,
+        fraction,
+        reach,
     };
     number_of(rounded_share(Millionths(outstanding), ratio, exposure))
 }
 
 // Every outstanding of the list becomes its share, outstanding × part / exposure rounded half up, by a ratio that is prepared once.
 // TOO_LARGE stands for a share whose size passes the limit of question 9, and OUTSIDE for that of a number that is no outstanding.
-// Answers 1; where the part or the exposure is outside its limits, 0, and the list stays as it was.
+// Answers 1; where the part or the exposure is outside its limits, 0, and the list stays as it was. Numbers stand for them since C calls it.
 #[unsafe(no_mangle)]
 pub extern "C" fn juniperprow_shares(part: i64, exposure: i64, figures: &mut [i64]) -> i64
     ensures value { result ≡ shares_answer part exposure }
     ensures figures_after { figures.new ≡ shares_of part exposure figures.old }
 {
     if from_to(-GREATEST_SUM, GREATEST_SUM, part) & from_to(1, GREATEST_SUM, exposure) {
-        let divisor = exposure as u64;
-        take_shares(
-            ratio_of(part, divisor, reciprocal_of(divisor)),
-            divisor,
-            figures,
-        );
+        let divisor = Divisor::of(exposure as u64);
+        take_shares(divisor.ratio_of(part), divisor.exposure, figures);
         return 1;
     }
     0
@@ -75,12 +71,8 @@ fn take_shares(ratio: Ratio, exposure: u64, figures: &mut [i64])
     requires { Ready ratio exposure }
     ensures { figures.new ≡ map (share_number (part_of ratio exposure) (pos exposure)) figures.old }
 {
-    let count = figures.len();
-    let mut j = 0;
-    while j < count {
-        let share = share_of(figures[j], ratio, exposure);
-        figures[j] = share;
-        j += 1;
+    for figure in figures.iter_mut() {
+        *figure = share_of(*figure, ratio, exposure);
     }
 }
 
@@ -94,12 +86,13 @@ fn share_of(outstanding: i64, ratio: Ratio, exposure: u64) -> i64
     OUTSIDE
 }
 
-fn number_of(share: Share) -> i64
+// The number that stands for a share.
+fn number_of(share: Option<Millionths>) -> i64
     ensures { result ≡ as_number share }
 {
     match share {
-        Share::Rounded(value) => value.0,
-        Share::TooLarge => TOO_LARGE,
+        Some(value) => value.0,
+        None => TOO_LARGE,
     }
 }
 

@@ -1,11 +1,11 @@
 -- The years that lead to a cell: each outstanding from its year's movement, each movement from the outstanding before it.
-use mathlib.Core.Path.{◌≡◌, sym, ap, ◌∙◌, subst}
-use mathlib.Core.Bool.{true, true≢false}
-use mathlib.Core.List.{List}
+use mathlib.Core.Path.{◌≡◌, refl, sym, ap, ◌∙◌, subst}
+use mathlib.Core.Bool.{true}
 use Prim.Native.Nat.{ℕ, suc, ◌+◌, ◌-◌, ◌≤◌, ◌<◌}
 use native.Mathlib.Decide.{dec_le}
 use native.Mathlib.Omega.{arith}
-use lib.IntN.{ℤ, ◌*ℤ◌}
+use lib.IntN.{◌*ℤ◌}
+use Rattle.std.proofs.Common.{Some}
 use Rattle.method.specs.Limits.{one_unit}
 use Rattle.method.specs.Triangle.{entry}
 use Rattle.method.specs.ProjectedYear.{next_year}
@@ -14,26 +14,24 @@ use Rattle.method.specs.Questions.{figures_in_range, question_9_of_year}
 use Rattle.method.proofs.FirstRefusal.{ask_accepted, first_accepted}
 use Rattle.method.proofs.RunOff.{O_observed, O_projected}
 use Rattle.ratios.specs.Ratios.{sums_at}
+use Rattle.prepared_years.specs.declared.triangle.PreparedTriangle.{PreparedTriangle}
 use Rattle.prepared_years.specs.Prepared.{ratios_of}
-use Rattle.projection.specs.declared.Movement.{Movement}
-use Rattle.projection.specs.declared.ProjectedYear.TheVariants.{Within, TooLarge}
-use Rattle.projection.specs.Year.{ProjectedYearInput, year_or_too_large, movement_of}
-use Rattle.projection.proofs.Years.{within_is, too_large_year}
+use Rattle.projection.specs.Year.{year_or_too_large, movement_of}
 use Rattle.run_off.specs.MethodRead.{method_read}
 use Rattle.run_off.proofs.ProjectedYears.{InRange, outstanding_in_range}
 use Rattle.single_cell.specs.Cells.{CellYear}
 
-module _ {n : ℕ} {years : List (List ℕ)} {outstandings : List ℤ} {i k : ℕ} (c : CellYear n years outstandings i k) where
+module _ {t : PreparedTriangle} {i k : ℕ} (c : CellYear t i k) where
   abbrev m : Method
-  m = method_read n (ratios_of years) outstandings
+  m = method_read t
 
-  pub last_observed_year : i + k ≡ n + 1 → entry outstandings i *ℤ one_unit ≡ O m i k
+  pub last_observed_year : i + k ≡ t.n + 1 → entry t.outstandings i *ℤ one_unit ≡ O m i k
   last_observed_year e = sym (O_observed m i k (omega arith))
 
-  pub later_year : (i + k ≡ n + 1 → ⊥) → n + 1 < i + k
-  later_year d = go (dec_le (n + 2) (i + k))
+  pub later_year : (i + k ≡ t.n + 1 → ⊥) → t.n + 1 < i + k
+  later_year d = go (dec_le (t.n + 2) (i + k))
     where
-      go : Dec (n + 2 ≤ i + k) → n + 1 < i + k
+      go : Dec (t.n + 2 ≤ i + k) → t.n + 1 < i + k
       go (yes l) = omega arith
       go (no l) = absurd (d (omega (arith, c.from_last_observed)))
 
@@ -47,34 +45,23 @@ module _ {n : ℕ} {years : List (List ℕ)} {outstandings : List ℤ} {i k : �
       let j : ℕ = k - last_observed m i in
       let e : last_observed m i + j ≡ k = omega (arith, c.from_last_observed) in
       subst (λ (x : ℕ). InRange (O m i x)) e
-      (outstanding_in_range c.readable c.row j (omega (arith, c.last_year, c.row.last)) (λ a p q. passed a p (omega (arith, c.last_year, c.row.last))))
+      (outstanding_in_range t c.row j (omega (arith, c.last_year, c.row.last)) (λ a p q. passed a p (omega (arith, c.last_year, c.row.last))))
 
-  module _ (later : n + 1 < i + k) where
-    pub year_before_it : CellYear n years outstandings i (k - 1)
-    year_before_it = record { readable = c.readable; row = c.row; from_last_observed = omega arith; last_year = omega (arith, c.last_year); passed = c.passed }
+  module _ (later : t.n + 1 < i + k) where
+    pub year_before_it : CellYear t i (k - 1)
+    year_before_it = record { row = c.row; from_last_observed = omega arith; last_year = omega (arith, c.last_year); passed = c.passed }
 
     pub outstanding_from_movement : O m i k ≡ (movement m i (k - 1)).outstanding
     outstanding_from_movement =
         let e : suc (k - 1) ≡ k = omega (arith, c.row.last) in
         ap (O m i) (sym e) ∙ O_projected m i (k - 1) (omega arith)
 
-    pub year_input : InRange (O m i (k - 1)) → ProjectedYearInput (O m i (k - 1)) (sums_at (ratios_of years) (k - 1))
-    year_input r = record {
-      outstanding_nonneg = r.0;
-      outstanding_most = r.1;
-      sums_in_range = c.readable.sums_in_range (k - 1) (omega (arith, c.row.last)) (omega (arith, c.last_year, c.row.last));
-    }
-
     -- the year that leads to the cell
     figures_right : figures_in_range (movement m i (k - 1)) ≡ true
     figures_right =
-        let e : year_before m i (i + k - (n + 1)) ≡ k - 1 = omega (arith, c.row.last) in
-        subst (λ (x : ℕ). figures_in_range (movement m i x) ≡ true) e (passed (i + k - (n + 1)) (omega arith) (omega (arith, c.last_year)))
+        let e : year_before m i (i + k - (t.n + 1)) ≡ k - 1 = omega (arith, c.row.last) in
+        subst (λ (x : ℕ). figures_in_range (movement m i x) ≡ true) e (passed (i + k - (t.n + 1)) (omega arith) (omega (arith, c.last_year)))
 
-    pub never_too_large : TooLarge ≡ year_or_too_large (next_year (O m i (k - 1)) (sums_at (ratios_of years) (k - 1))) → ⊥
-    unfolding movement
-    never_too_large e = true≢false (sym figures_right ∙ too_large_year _ e)
-
-    pub movement_answered : {x : Movement} → Within x ≡ year_or_too_large (next_year (O m i (k - 1)) (sums_at (ratios_of years) (k - 1))) → x ≡ movement_of (movement m i (k - 1))
-    unfolding movement
-    movement_answered {x} e = (within_is _ x e).0
+    pub movement_found : year_or_too_large (next_year (O m i (k - 1)) (sums_at (ratios_of t.years) (k - 1))) ≡ Some (movement_of (movement m i (k - 1)))
+    unfolding movement year_or_too_large
+    movement_found = rw figures_right refl

@@ -2,22 +2,22 @@
 ghost use Rattle.printed.specs.Line.{LineIs};
 ghost use Rattle.tables.specs.Accepted as meaning;
 
-use printed::filling::filled_2;
-use printed::line::{Line, line_of};
+use printed::filling::filled;
+use printed::line::Line;
 
 pub fn accepted_line(years: i64, cut: i64) -> Line
     ensures { LineIs (meaning.accepted_line years cut) result }
 {
-    filled_2(b"accepted: @ accident years, cut @", years, cut)
+    filled(b"accepted: @ accident years, cut @", &[years, cut])
 }
 
 pub fn payments_line(cumulated: bool) -> Line
     ensures { LineIs (meaning.payments_line cumulated) result }
 {
     if cumulated {
-        line_of(b"Payments are read as cumulated figures.")
+        Line::of(b"Payments are read as cumulated figures.")
     } else {
-        line_of(b"Payments are read as incremental figures.")
+        Line::of(b"Payments are read as incremental figures.")
     }
 }
 
@@ -25,9 +25,9 @@ pub fn adjustments_line(cumulated: bool) -> Line
     ensures { LineIs (meaning.adjustments_line cumulated) result }
 {
     if cumulated {
-        line_of(b"Adjustments are read as cumulated figures, which are reported amounts.")
+        Line::of(b"Adjustments are read as cumulated figures, which are reported amounts.")
     } else {
-        line_of(b"Adjustments are read as incremental figures.")
+        Line::of(b"Adjustments are read as incremental figures.")
     }
 }
 
@@ -35,9 +35,9 @@ pub fn weights_line(given: bool) -> Line
     ensures { LineIs (meaning.weights_line given) result }
 {
     if given {
-        line_of(b"Weights are read as given.")
+        Line::of(b"Weights are read as given.")
     } else {
-        line_of(b"Weights are not given: each is 1, or 0 where its cell is missing.")
+        Line::of(b"Weights are not given: each is 1, or 0 where its cell is missing.")
     }
 }
 
@@ -45,5 +45,5 @@ pub fn weights_line(given: bool) -> Line
 pub fn openings_line() -> Line
     ensures { LineIs meaning.openings_line result }
 {
-    line_of(b"Openings are read as given.")
+    Line::of(b"Openings are read as given.")
 }

@@ -3,10 +3,9 @@ ghost use Rattle.std.specs.Prelude.{◌≡◌};
 ghost use Rattle.printed.specs.Line.{LineIs};
 ghost use Rattle.tables.specs.OneCell as meaning;
 
-use printed::counts::larger;
-use printed::entries::{amount_width, with_amount};
-use printed::filling::filled_2;
-use printed::line::{Line, line_of};
+use printed::filling::filled;
+use printed::line::Line;
+use written_figures::writing::amount;
 
 // The three figures of a cell.
 #[derive(Clone, Copy)]
@@ -19,10 +18,9 @@ pub enum CellFigure {
 pub fn cell_title(accident_year: i64, development_year: i64) -> Line
     ensures { LineIs (meaning.cell_title accident_year development_year) result }
 {
-    filled_2(
+    filled(
         b"Accident year @ in development year @, in units",
-        accident_year,
-        development_year,
+        &[accident_year, development_year],
     )
 }
 
@@ -30,25 +28,25 @@ pub fn cell_title(accident_year: i64, development_year: i64) -> Line
 pub fn cell_column(payment: i64, adjustment: i64, outstanding: i64) -> usize
     ensures { result ≡ meaning.cell_column payment adjustment outstanding }
 {
-    larger(
-        larger(amount_width(payment), amount_width(adjustment)),
-        amount_width(outstanding),
-    )
+    amount(payment)
+        .width
+        .max(amount(adjustment).width)
+        .max(amount(outstanding).width)
 }
 
 // One of the figures after its name, in millionths.
 pub fn cell_line(figure: CellFigure, millionths: i64, column: usize) -> Line
     ensures { LineIs (meaning.cell_line figure millionths column) result }
 {
-    with_amount(figure_name(figure), millionths, column)
+    figure_name(figure).with_entry(amount(millionths).text(), column)
 }
 
 fn figure_name(figure: CellFigure) -> Line
     ensures { LineIs (meaning.figure_name figure) result }
 {
     match figure {
-        CellFigure::Payment => line_of(b"    payment"),
-        CellFigure::Adjustment => line_of(b" adjustment"),
-        CellFigure::Outstanding => line_of(b"outstanding"),
+        CellFigure::Payment => Line::of(b"    payment"),
+        CellFigure::Adjustment => Line::of(b" adjustment"),
+        CellFigure::Outstanding => Line::of(b"outstanding"),
     }
 }

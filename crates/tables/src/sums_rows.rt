@@ -5,9 +5,9 @@ ghost use Rattle.printed.specs.Line.{LineIs};
 ghost use Rattle.printed.specs.Entries.{set_right};
 ghost use Rattle.tables.specs.SumsRows as meaning;
 
-use printed::counts::{larger, less, signed};
-use printed::entries::{whole_width, with_text_entry, with_whole};
-use printed::line::{Line, empty, line_of, with_spaces, with_text, with_written};
+use printed::columns::widest;
+use printed::counts::signed;
+use printed::line::Line;
 use ratios::Sums;
 use verdicts::limits::DEVELOPMENT_YEARS;
 use written_figures::writing::whole;
@@ -15,18 +15,16 @@ use written_figures::writing::whole;
 pub fn sums_title() -> Line
     ensures { LineIs meaning.sums_title result }
 {
-    line_of(b"Sums of the ratios: payment ratio P / D, adjustment ratio Q / D")
+    Line::of(b"Sums of the ratios: payment ratio P / D, adjustment ratio Q / D")
 }
 
 pub fn sums_heading(column: usize) -> Line
     ensures { LineIs (meaning.sums_heading column) result }
 {
-    let years = line_of(b"development year");
-    with_text_entry(
-        with_text_entry(with_text_entry(years, b"P", column), b"Q", column),
-        b"D",
-        column,
-    )
+    Line::of(b"development year")
+        .with_entry(b"P", column)
+        .with_entry(b"Q", column)
+        .with_entry(b"D", column)
 }
 
 // The row of development year k, whose sums project from that year to the next.
@@ -35,9 +33,10 @@ pub fn sums_row(ratios: [Sums; DEVELOPMENT_YEARS], k: usize, column: usize) -> L
     ensures { LineIs (meaning.sums_row ratios k column) result }
 {
     let sums = ratios[k - 1];
-    let payments = with_whole(years_label(k), sums.payments, column);
-    let adjustments = with_whole(payments, sums.adjustments, column);
-    with_whole(adjustments, sums.exposure, column)
+    years_label(k)
+        .with_entry(whole(sums.payments).text(), column)
+        .with_entry(whole(sums.adjustments).text(), column)
+        .with_entry(whole(sums.exposure).text(), column)
 }
 
 // From this development year to the next, as wide as the heading of its column.
@@ -47,8 +46,11 @@ fn years_label(k: usize) -> Line
 {
     let from = whole(signed(k));
     let to = whole(signed(k + 1));
-    let spaces = with_spaces(empty(), less(less(12, from.width), to.width));
-    with_written(with_text(with_written(spaces, from), b" to "), to)
+    Line::empty()
+        .with_spaces(12usize.saturating_sub(from.width).saturating_sub(to.width))
+        .with_text(from.text())
+        .with_text(b" to ")
+        .with_text(to.text())
 }
 
 // The width of the widest sum, or of a heading.
@@ -56,20 +58,14 @@ pub fn sums_column(n: usize, ratios: [Sums; DEVELOPMENT_YEARS]) -> usize
     requires { n ≤ most_accident_years }
     ensures { result ≡ meaning.sums_column n ratios }
 {
-    let mut column = 1;
-    let mut j = 0;
-    while j + 1 < n {
-        column = larger(column, sums_width(ratios[j]));
-        j += 1;
-    }
-    column
+    widest(1, 0..n.saturating_sub(1), |place| sums_width(ratios[place]))
 }
 
 fn sums_width(sums: Sums) -> usize
     ensures { result ≡ meaning.sums_width sums }
 {
-    larger(
-        larger(whole_width(sums.payments), whole_width(sums.adjustments)),
-        whole_width(sums.exposure),
-    )
+    whole(sums.payments)
+        .width
+        .max(whole(sums.adjustments).width)
+        .max(whole(sums.exposure).width)
 }

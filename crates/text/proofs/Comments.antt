@@ -1,6 +1,6 @@
 -- Where the comment of a line begins, sought byte by byte.
 use mathlib.Core.Path.{◌≡◌, refl, ap}
-use mathlib.Core.Bool.{Bool, true, false, ◌&&◌, cond, and-false}
+use mathlib.Core.Bool.{Bool, true, false, ◌&&◌, cond}
 use mathlib.Core.List.{List, [], ◌∷◌}
 use Prim.Native.Nat.{ℕ, suc, ◌+◌, ◌≤◌, ◌<◌}
 use native.Mathlib.Numerals.{add-one}
@@ -8,8 +8,8 @@ use native.Mathlib.Omega.{arith}
 use lib.Dec.{eqb}
 use lib.ListN.{length, get_or, take, drop, drop_of_length-le}
 use lib.Seq.{drop-cons}
-use Rattle.text.specs.Bytes.{space, number_sign}
-use Rattle.text.specs.Lines.{without_return, begins_comment, before_comment}
+use Rattle.text.specs.Bytes.{space}
+use Rattle.text.specs.Lines.{begins_comment, before_comment}
 
 -- what stands before the comment is the line's beginning
 pub before_comment_within : (may_begin : Bool) (line : List ℕ) → length (before_comment may_begin line) ≤ length line
@@ -51,19 +51,3 @@ module _ (may_begin : Bool) (line : List ℕ) (at : ℕ) (within : at < length l
 pub no_comment : (may_begin : Bool) (line : List ℕ) (at : ℕ) → length line ≤ at → length (before_comment may_begin (drop at line)) ≡ 0
 unfolding before_comment
 no_comment may_begin line at h = rw (drop_of_length-le line h)
-
--- ---- A number sign and a space
-
-pub begins_comment_at : (line : List ℕ) (at : ℕ) → at + 1 < length line
-    → (eqb (get_or line at 0) number_sign && eqb (get_or line (at + 1) 0) space && without_return (drop at line)) ≡ begins_comment (drop at line)
-begins_comment_at line at within =
-    let here = drop-cons line at 0 (omega arith) in
-    let next = drop-cons line (suc at) 0 (omega arith) in
-    rw (add-one, here, next)
-
-pub no_comment_at_end : (line : List ℕ) (at : ℕ) → at + 1 ≡ length line → false ≡ begins_comment (drop at line)
-no_comment_at_end line at last =
-    let here = drop-cons line at 0 (omega arith) in
-    let within : length line ≤ suc at = omega arith in
-    let ended : drop (suc at) line ≡ [] = drop_of_length-le line within in
-    rw (here, ended, and-false (eqb (get_or line at 0) number_sign))

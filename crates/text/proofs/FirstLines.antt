@@ -1,33 +1,37 @@
 -- The first line of a text, and the lines after it, by the place of the first line feed.
-use mathlib.Core.Path.{◌≡◌, refl, sym, ap, ◌∙◌}
+use mathlib.Core.Path.{◌≡◌, refl, sym, ap, subst, ◌∙◌}
 use mathlib.Core.Bool.{Bool, true, false, ◌&&◌, cond, and-true, and-false}
 use mathlib.Core.List.{List, [], ◌∷◌, map}
-use Prim.Native.Nat.{ℕ, zero, suc, ◌-◌, ◌≤◌, ◌<◌}
-use native.Mathlib.Nat.{sub-zero}
+use Prim.Native.Nat.{ℕ, zero, suc, ◌+◌, ◌-◌, ◌≤◌, ◌<◌}
 use native.Mathlib.Omega.{arith}
-use borrow.Author.Tests.{eq-eqb, ne_eqb}
 use lib.Dec.{eqb}
 use lib.ListN.{length, get_or, take, drop, length-take}
-use lib.Seq.{take_all, take-take}
+use lib.Pointwise.{pointwise}
+use lib.Seq.{take_all, take-take, drop-cons, length-take-le}
+use Rattle.std.specs.Prelude.{Option, None, Some}
+use Rattle.std.specs.Option.{MatchOption, unwrap_or}
+use Rattle.std.proofs.Common.{Bor}
+use Rattle.std.proofs.lemmas.List.{drop-take}
+use Rattle.lists.proofs.Parts.{whole_rest, rest_length}
 use Rattle.text.specs.Bytes.{line_feed, carriage_return}
-use Rattle.text.specs.Search.{before, from}
-use Rattle.text.specs.Lines.{first_of, others_of, with_byte, line_feed_follows, whole_lines, before_comment, without_comment, lines}
-use Rattle.text.specs.declared.search.Sought.TheVariants.{Byte}
-use Rattle.text.proofs.Comments.{before_comment_within, take_before_comment}
+use Rattle.text.specs.Search.{is_byte, before, from}
+use Rattle.text.specs.Lines.{first_of, others_of, with_byte, line_feed_follows, whole_lines, before_comment, without_comment, lines, after_line, IsPart, AfterLine}
+use Rattle.text.proofs.Searches.{from_within}
+use Rattle.text.proofs.Parts.{part_after}
 
 -- the place of the first line feed
 abbrev pub line_end : List ℕ → ℕ
-line_end text = length (before (Byte line_feed) text)
+line_end text = length (before (is_byte line_feed) text)
 
 -- ---- The lines after the first
 
-after_whole_line : (text : List ℕ) → whole_lines (drop 1 (from (Byte line_feed) text)) ≡ others_of (whole_lines text)
+after_whole_line : (text : List ℕ) → whole_lines (drop 1 (from (is_byte line_feed) text)) ≡ others_of (whole_lines text)
 unfolding whole_lines from
 after_whole_line [] = refl
 after_whole_line (byte ∷ text) = go (eqb byte line_feed) (eqb byte carriage_return && line_feed_follows text) (after_whole_line text)
   where
-    go : (ends returns : Bool) → whole_lines (drop 1 (from (Byte line_feed) text)) ≡ others_of (whole_lines text)
-        → whole_lines (drop 1 (cond ends (byte ∷ text) (from (Byte line_feed) text)))
+    go : (ends returns : Bool) → whole_lines (drop 1 (from (is_byte line_feed) text)) ≡ others_of (whole_lines text)
+        → whole_lines (drop 1 (cond ends (byte ∷ text) (from (is_byte line_feed) text)))
         ≡ others_of (cond ends ([] ∷ whole_lines text) (cond returns (whole_lines text) (with_byte byte (whole_lines text))))
     go true returns e = refl
     go false true e = e
@@ -37,9 +41,30 @@ others_of_map : (f : List ℕ → List ℕ) (all : List (List ℕ)) → map f (o
 others_of_map f [] = refl
 others_of_map f (line ∷ others) = refl
 
-pub after_line : (text : List ℕ) → lines (drop 1 (from (Byte line_feed) text)) ≡ others_of (lines text)
+lines_after : (text : List ℕ) → lines (after_line text) ≡ others_of (lines text)
 unfolding lines
-after_line text = ap (map without_comment) (after_whole_line text) ∙ others_of_map without_comment (whole_lines text)
+lines_after text = ap (map without_comment) (after_whole_line text) ∙ others_of_map without_comment (whole_lines text)
+
+after_first : (text rest : List ℕ) → (0 < length text → length rest < length text) → rest ≡ after_line text → AfterLine text rest
+after_first text rest shorter is = record {
+  shorter = shorter;
+  others = ap lines is ∙ lines_after text;
+  rest_is = is;
+  part = subst (IsPart text) (sym is) (part_after text);
+}
+
+-- what is left where the line feed is passed, or where there is none
+module _ (text end : List ℕ) (is : end ≡ from (is_byte line_feed) text) where
+  pub nothing_after : length end ≡ 0 → AfterLine text end
+  nothing_after none = after_first text end (λ some. omega arith) (no_first end none ∙ ap (drop 1) is)
+    where
+      no_first : (list : List ℕ) → length list ≡ 0 → list ≡ drop 1 list
+      no_first [] none = refl
+      no_first (byte ∷ list) none = absurd (omega arith)
+
+  pub line_feed_passed : (length end ≡ 0 → ⊥) → AfterLine text (take (length end - 1) (drop 1 end))
+  line_feed_passed some =
+      after_first text _ (λ more. omega (arith, rest_length end 1, ap length is, from_within (is_byte line_feed) text)) (whole_rest end 1 ∙ ap (drop 1) is)
 
 -- ---- The first line
 
@@ -49,7 +74,7 @@ unfolding before
 follows_here [] e l = absurd (omega arith)
 follows_here (byte ∷ text) e l = go (eqb byte line_feed) e
   where
-    go : (ends : Bool) → length (cond ends [] (byte ∷ before (Byte line_feed) text)) ≡ 0 → ends ≡ true
+    go : (ends : Bool) → length (cond ends [] (byte ∷ before (is_byte line_feed) text)) ≡ 0 → ends ≡ true
     go true e = refl
     go false e = absurd (omega arith)
 
@@ -58,7 +83,7 @@ unfolding before
 follows_later [] l = refl
 follows_later (byte ∷ text) l = go (eqb byte line_feed) l
   where
-    go : (ends : Bool) → 0 < length (cond ends [] (byte ∷ before (Byte line_feed) text)) → ends ≡ false
+    go : (ends : Bool) → 0 < length (cond ends [] (byte ∷ before (is_byte line_feed) text)) → ends ≡ false
     go true l = absurd (omega arith)
     go false l = refl
 
@@ -71,8 +96,8 @@ one_byte_further : (byte : ℕ) (text : List ℕ) → 0 < line_end (byte ∷ tex
 unfolding before
 one_byte_further byte text l = go (eqb byte line_feed) l
   where
-    go : (ends : Bool) → 0 < length (cond ends [] (byte ∷ before (Byte line_feed) text))
-        → length (cond ends [] (byte ∷ before (Byte line_feed) text)) ≡ suc (line_end text)
+    go : (ends : Bool) → 0 < length (cond ends [] (byte ∷ before (is_byte line_feed) text))
+        → length (cond ends [] (byte ∷ before (is_byte line_feed) text)) ≡ suc (line_end text)
     go true l = absurd (omega arith)
     go false l = refl
 
@@ -127,20 +152,56 @@ module _ (text : List ℕ) (end : ℕ) (is : end ≡ line_end text) where
   pub without_line_feed : end ≡ length text → take end text ≡ first_of (whole_lines text)
   without_line_feed e = take_all end text (omega arith) ∙ no_line_feed text (omega arith)
 
-  pub with_line_feed_first : end ≡ 0 → take end text ≡ first_of (whole_lines text)
+  with_line_feed_first : end ≡ 0 → take end text ≡ first_of (whole_lines text)
   with_line_feed_first e = ap (λ n. take n text) e ∙ line_feed_first text (sym is ∙ e)
 
   module _ (some : 0 < end) (within : end < length text) where
     content : take (cond (eqb (get_or text (end - 1) 0) carriage_return) (end - 1) (suc (end - 1))) text ≡ first_of (whole_lines text)
     content = up_to_content text (end - 1) (omega arith) (omega arith)
 
-    pub with_return_before : get_or text (end - 1) 0 ≡ carriage_return → take (end - 1) text ≡ first_of (whole_lines text)
-    with_return_before e = rw (eq-eqb _ _ e) at content
+    -- what a test of the last byte before the line feed tells
+    last_byte : drop (length (take end text) - 1) (take end text) ≡ get_or text (end - 1) 0 ∷ []
+    last_byte =
+        let one_more : end ≡ end - 1 + 1 = omega arith in
+        ap (λ n. drop (n - 1) (take end text)) (length-take-le end text (omega arith))
+        ∙ ap (λ n. drop (end - 1) (take n text)) one_more
+        ∙ drop-take (end - 1) 1 text
+        ∙ ap (take 1) (drop-cons text (end - 1) 0 (omega arith))
 
-    pub without_return_before : (get_or text (end - 1) 0 ≡ carriage_return → ⊥) → take end text ≡ first_of (whole_lines text)
-    without_return_before e =
-        let one_more : end ≡ suc (end - 1) = omega arith in
-        ap (λ n. take n text) one_more ∙ rw (ne_eqb _ _ e) at content
+    last_test : pointwise eqb (drop (length (take end text) - 1) (take end text)) (carriage_return ∷ []) ≡ eqb (get_or text (end - 1) 0) carriage_return
+    last_test = ap (λ last. pointwise eqb last (carriage_return ∷ [])) last_byte ∙ and-true (eqb (get_or text (end - 1) 0) carriage_return)
+
+  module _ (within : end < length text) where
+    return_stripped : pointwise eqb (drop (length (take end text) - 1) (take end text)) (carriage_return ∷ []) ≡ true
+        → take (length (take end text) - 1) (take end text) ≡ first_of (whole_lines text)
+    return_stripped e = go end refl
+      where
+        go : (n : ℕ) → n ≡ end → take (length (take end text) - 1) (take end text) ≡ first_of (whole_lines text)
+        go zero none = cc (ap (λ n. pointwise eqb (drop (length (take n text) - 1) (take n text)) (carriage_return ∷ [])) none ∙ e)
+        go (suc n) some =
+            take-take (length (take end text) - 1) end text (omega (arith, length-take end text))
+            ∙ ap (λ n. take (n - 1) text) (length-take-le end text (omega arith))
+            ∙ rw (sym (last_test (omega arith) within) ∙ e) at content (omega arith) within
+
+    nothing_stripped : pointwise eqb (drop (length (take end text) - 1) (take end text)) (carriage_return ∷ []) ≡ false
+        → take end text ≡ first_of (whole_lines text)
+    nothing_stripped e = go end refl
+      where
+        go : (n : ℕ) → n ≡ end → take end text ≡ first_of (whole_lines text)
+        go zero none = with_line_feed_first (sym none)
+        go (suc n) some =
+            let one_more : end ≡ suc (end - 1) = omega arith in
+            ap (λ n. take n text) one_more ∙ rw (sym (last_test (omega arith) within) ∙ e) at content (omega arith) within
+
+    -- the line without the carriage return that it may end with
+    pub stripped : (line : Bor (List ℕ)) (rest : Option (Bor (List ℕ))) → line.now ≡ take end text
+        → MatchOption rest (pointwise eqb (drop (length (take end text) - 1) (take end text)) (carriage_return ∷ []) ≡ false)
+        (λ kept. (pointwise eqb (drop (length (take end text) - 1) (take end text)) (carriage_return ∷ []) ≡ true)
+        × (kept.now ≡ take (length (take end text) - 1) (take end text))
+        × (length kept.now + 1 ≡ length (take end text)))
+        → (unwrap_or rest line).now ≡ first_of (whole_lines text)
+    stripped line None is h = is ∙ nothing_stripped h
+    stripped line (Some kept) is h = h.1 ∙ return_stripped h.0
 
 -- ---- Comments
 
@@ -149,49 +210,6 @@ unfolding before_comment
 first_of_map [] = refl
 first_of_map (line ∷ others) = refl
 
--- ---- No line is longer than its text
-
-first_whole_line_short : (text : List ℕ) → length (first_of (whole_lines text)) ≤ length text
-unfolding whole_lines
-first_whole_line_short [] = omega arith
-first_whole_line_short (byte ∷ text) =
-    go (eqb byte line_feed) (eqb byte carriage_return && line_feed_follows text) (first_whole_line_short text)
-  where
-    go : (ends returns : Bool) → length (first_of (whole_lines text)) ≤ length text
-        → length (first_of (cond ends ([] ∷ whole_lines text) (cond returns (whole_lines text) (with_byte byte (whole_lines text))))) ≤ suc (length text)
-    go true returns h = omega arith
-    go false true h = omega arith
-    go false false h = omega arith
-
-pub first_line_short : (text : List ℕ) → length (first_of (lines text)) ≤ length text
+pub first_without_comment : (text : List ℕ) → without_comment (first_of (whole_lines text)) ≡ first_of (lines text)
 unfolding lines
-first_line_short text =
-    omega (
-      arith,
-      ap length (first_of_map (whole_lines text)),
-      before_comment_within true (first_of (whole_lines text)),
-      first_whole_line_short text,
-    )
-
--- ---- Where the comment begins
-
--- what the place of the comment in the first line tells
-module _ (text : List ℕ) (end comment : ℕ) (within : end ≤ length text) (ends : take end text ≡ first_of (whole_lines text))
-    (is : comment ≡ length (without_comment (take (end - 0) text))) where
-  in_line : comment ≡ length (without_comment (take end text))
-  in_line = is ∙ ap (λ n. length (without_comment (take n text))) (sub-zero end)
-
-  inside_line : comment ≤ end
-  inside_line = omega (arith, in_line, before_comment_within true (take end text), length-take end text)
-
-  pub comment_within : comment ≤ length text
-  comment_within = omega (arith, inside_line)
-
-  pub part_before_comment : take (comment - 0) text ≡ first_of (lines text)
-  unfolding lines
-  part_before_comment =
-      sym (take-take (comment - 0) end text (omega (arith, inside_line)))
-      ∙ ap (λ n. take n (take end text)) (sub-zero comment ∙ in_line)
-      ∙ take_before_comment true (take end text)
-      ∙ ap without_comment ends
-      ∙ first_of_map (whole_lines text)
+first_without_comment text = first_of_map (whole_lines text)

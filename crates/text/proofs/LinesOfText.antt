@@ -2,14 +2,17 @@
 use mathlib.Core.Path.{◌≡◌, refl, sym, ap, ◌∙◌}
 use mathlib.Core.Bool.{Bool, true, false, ◌&&◌, cond, and-false}
 use mathlib.Core.List.{List, [], ◌∷◌, map}
-use Prim.Native.Nat.{ℕ, zero, suc, ◌+◌, ◌-◌, ◌≤◌, ◌<◌}
+use Prim.Native.Nat.{ℕ, zero, suc, ◌≤◌, ◌<◌}
 use native.Mathlib.Omega.{arith}
 use lib.Dec.{eqb}
-use lib.ListN.{length, get_or, take, drop, drop_of_length-le}
-use lib.Seq.{drop-cons, drop-drop}
-use Rattle.lists.proofs.Parts.{whole_rest, rest_length, rest_within}
+use lib.ListN.{length, length-map, get_or, drop, drop_of_length-le}
+use lib.Seq.{drop-cons}
+use Rattle.std.specs.Prelude.{Option, None, Some}
+use Rattle.std.proofs.Common.{Bor}
+use Rattle.std.specs.List.{slice_get}
+use Rattle.std.specs.Option.{option_map, unwrap_or}
 use Rattle.text.specs.Bytes.{line_feed, carriage_return}
-use Rattle.text.specs.Lines.{first_of, others_of, with_byte, line_feed_follows, whole_lines, without_comment, lines, line_of, AfterLine}
+use Rattle.text.specs.Lines.{first_of, others_of, with_byte, line_feed_follows, whole_lines, without_comment, lines, AfterLine}
 
 -- ---- Some line
 
@@ -40,7 +43,7 @@ some_line : (byte : ℕ) (text : List ℕ) → some (lines (byte ∷ text))
 unfolding lines
 some_line byte text = some_of_map without_comment (whole_lines (byte ∷ text)) (some_whole_line byte text)
 
--- ---- From a place on
+-- ---- The first line and the others
 
 pub lines_from : (text : List ℕ) (start : ℕ) → start < length text
     → lines (drop start text) ≡ first_of (lines (drop start text)) ∷ others_of (lines (drop start text))
@@ -50,56 +53,42 @@ pub no_lines : (text : List ℕ) (start : ℕ) → length text ≤ start → lin
 unfolding lines whole_lines
 no_lines text start h = rw (drop_of_length-le text h)
 
--- A line of a text, and the places where it and the next one start.
-pub record LineAt (text : List ℕ) (start : ℕ) (line : List ℕ) (next : ℕ) : Type 0 where
-  pub parts : lines (drop start text) ≡ line ∷ lines (drop next text)
-  pub within : next ≤ length text
-  pub further : start < next
-
--- What the first line of the rest of a text tells.
-module _ (text : List ℕ) (start : ℕ) (line : List ℕ) (is : line ≡ first_of (lines (take (length text - start) (drop start text)))) where
-  pub first_of_rest : line ≡ first_of (lines (drop start text))
-  first_of_rest = is ∙ ap (λ rest. first_of (lines rest)) (whole_rest text start)
-
-  module _ (more : start < length text) where
-    pub line_and_others : lines (drop start text) ≡ line ∷ others_of (lines (drop start text))
-    line_and_others = lines_from text start more ∙ ap (λ first. first ∷ others_of (lines (drop start text))) (sym first_of_rest)
-
-    pub line_read : (size : ℕ) → AfterLine (take (length text - start) (drop start text)) size → LineAt text start line (start + size)
-    line_read size after =
-        let rest : AfterLine (drop start text) size = rw (whole_rest text start) at after in
-        record {
-          parts = line_and_others ∙ ap (λ others. line ∷ others) (sym (ap lines (sym (drop-drop size start text)) ∙ rest.others));
-          within = rest_within text start (omega arith) after.within;
-          further = omega (arith, after.further (omega (arith, rest_length text start)));
-        }
+pub first_and_others : (text rest : List ℕ) → 0 < length text → AfterLine text rest → lines text ≡ first_of (lines text) ∷ lines rest
+first_and_others text rest more after = lines_from text 0 more ∙ ap (λ others. first_of (lines text) ∷ others) (sym after.others)
 
 -- ---- A line by its number
 
-pub line_of_first : (number : ℕ) (all : List (List ℕ)) → number ≤ 1 → first_of all ≡ line_of number all
-line_of_first number all few =
-    let none : number - 1 ≡ 0 = omega arith in
-    ap (λ before. first_of (drop before all)) (sym none)
+line_got : (number : ℕ) (all : List (List ℕ)) → unwrap_or (slice_get all number) [] ≡ first_of (drop number all)
+line_got zero [] = refl
+line_got (suc number) [] = refl
+line_got zero (line ∷ others) = refl
+line_got (suc number) (line ∷ others) = line_got number others
 
-pub line_of_others : (number : ℕ) (all : List (List ℕ)) → 1 < number → line_of (number - 1) (others_of all) ≡ line_of number all
-line_of_others number all more =
-    let one_more : number - 1 ≡ suc (number - 1 - 1) = omega arith in
-    go (number - 1 - 1) all ∙ ap (λ before. first_of (drop before all)) (sym one_more)
+-- the line that the iterator gave, or an empty text where there are fewer
+pub line_given : (text : List ℕ) (number : ℕ) (given : Option (Bor (List ℕ))) (other : Bor (List ℕ)) → other.now ≡ []
+    → option_map (λ (line : Bor (List ℕ)). line.now) given ≡ slice_get (lines text) number
+    → (unwrap_or given other).now ≡ first_of (drop number (lines text))
+line_given text number None other empty e = empty ∙ ap (λ line. unwrap_or line []) e ∙ line_got number (lines text)
+line_given text number (Some line) other empty e = ap (λ line. unwrap_or line []) e ∙ line_got number (lines text)
+
+-- ---- How many lines a text has
+
+others_within : (all : List (List ℕ)) → length (others_of all) ≤ length all
+others_within [] = omega arith
+others_within (line ∷ others) = omega arith
+
+whole_lines_within : (text : List ℕ) → length (whole_lines text) ≤ length text
+unfolding whole_lines
+whole_lines_within [] = omega arith
+whole_lines_within (byte ∷ text) = go (eqb byte line_feed) (eqb byte carriage_return && line_feed_follows text) (whole_lines_within text)
   where
-    go : (before : ℕ) (all : List (List ℕ)) → first_of (drop before (others_of all)) ≡ first_of (drop (suc before) all)
-    go zero [] = refl
-    go (suc before) [] = refl
-    go before (line ∷ others) = refl
+    go : (ends returns : Bool) → length (whole_lines text) ≤ length text
+        → length (cond ends ([] ∷ whole_lines text) (cond returns (whole_lines text) (with_byte byte (whole_lines text)))) ≤ suc (length text)
+    go true returns h = omega arith
+    go false true h = omega arith
+    go false false h = omega (arith, others_within (whole_lines text))
 
--- how the search for a line goes on after so many bytes more
-module _ (text : List ℕ) (start left size : ℕ) (after : AfterLine (take (length text - start) (drop start text)) size) where
-  rest_after : AfterLine (drop start text) size
-  rest_after = rw (whole_rest text start) at after
-
-  pub passed_within : start ≤ length text → start + size ≤ length text
-  passed_within within = rest_within text start within after.within
-
-  pub line_passed : 1 < left → line_of (left - 1) (lines (drop (start + size) text)) ≡ line_of left (lines (drop start text))
-  line_passed more =
-      ap (line_of (left - 1)) (ap lines (sym (drop-drop size start text)) ∙ rest_after.others)
-      ∙ line_of_others left (lines (drop start text)) more
+-- each line has a byte at least
+pub lines_within : (text : List ℕ) → length (lines text) ≤ length text
+unfolding lines
+lines_within text = omega (arith, length-map (whole_lines text) without_comment, whole_lines_within text)

@@ -1,5 +1,6 @@
 -- The length of a text, the bytes that part it, and letters.
-use Rattle.std.specs.Prelude.{Bool, ◌&&◌, cond, ℕ, ◌+◌, leb}
+use Rattle.std.specs.Prelude.{Bool, ℕ}
+use Rattle.std.specs.Char.{to_ascii_lowercase, is_ascii_alphabetic}
 use Prim.Native.Char.{code}
 
 -- The most bytes that a text of a program has.
@@ -31,8 +32,8 @@ abbrev pub semicolon : ℕ
 semicolon = code ";"
 
 -- The small letter of a capital one; every other byte as it is.
-unfoldable pub small : ℕ → ℕ
-small byte = cond (leb (code "A") byte && leb byte (code "Z")) (byte + 32) byte
+abbrev pub small : ℕ → ℕ
+small byte = to_ascii_lowercase byte
 
-unfoldable pub is_letter : ℕ → Bool
-is_letter byte = leb (code "a") (small byte) && leb (small byte) (code "z")
+abbrev pub is_letter : ℕ → Bool
+is_letter byte = is_ascii_alphabetic byte

@@ -1,8 +1,7 @@
 -- The lines of a text, without their ends and their comments.
-use Rattle.std.specs.Prelude.{◌≡◌, Bool, true, false, ◌&&◌, cond, List, [], ◌∷◌, map, ℕ, ◌-◌, ◌≤◌, ◌<◌, eqb, length, drop}
+use Rattle.std.specs.Prelude.{◌≡◌, Bool, true, false, ◌&&◌, cond, List, [], ◌∷◌, map, ℕ, zero, suc, ◌-◌, ◌<◌, eqb, length, drop}
 use Rattle.text.specs.Bytes.{line_feed, carriage_return, space, number_sign}
-use Rattle.text.specs.Search.{before}
-use Rattle.text.specs.declared.search.Sought.TheVariants.{Byte}
+use Rattle.text.specs.Search.{is_byte, before, from}
 
 -- the first of several lines, empty where there is none, and those after it
 abbrev pub first_of : List (List ℕ) → List ℕ
@@ -33,7 +32,7 @@ begins_with_space [] = false
 begins_with_space (byte ∷ line) = eqb byte space
 
 abbrev pub without_return : List ℕ → Bool
-without_return text = eqb (length (before (Byte carriage_return) text)) (length text)
+without_return text = eqb (length (before (is_byte carriage_return) text)) (length text)
 
 -- A comment begins with a number sign and a space. It has no carriage return, after which some programs begin a line.
 abbrev pub begins_comment : List ℕ → Bool
@@ -57,8 +56,22 @@ lines text = map without_comment (whole_lines text)
 abbrev pub line_of : ℕ → List (List ℕ) → List ℕ
 line_of number lines = first_of (drop (number - 1) lines)
 
--- A text goes on after r bytes with the lines after its first.
-pub record AfterLine (text : List ℕ) (r : ℕ) : Type 0 where
-  pub within : r ≤ length text
-  pub further : 0 < length text → 0 < r
-  pub others : lines (drop r text) ≡ others_of (lines text)
+-- A text after its first line feed; empty where it has none.
+abbrev pub after_line : List ℕ → List ℕ
+after_line text = drop 1 (from (is_byte line_feed) text)
+
+-- A text after so many of its lines.
+unfoldable pub after_lines : ℕ → List ℕ → List ℕ
+after_lines zero text = text
+after_lines (suc number) text = after_line (after_lines number text)
+
+-- Whether what is left is a part of the text, up to its end.
+abbrev pub IsPart : List ℕ → List ℕ → Type 0
+IsPart text rest = rest ≡ drop (length text - length rest) text
+
+-- What is left of a text after its first line.
+pub record AfterLine (text rest : List ℕ) : Type 0 where
+  pub shorter : 0 < length text → length rest < length text
+  pub others : lines rest ≡ others_of (lines text)
+  pub rest_is : rest ≡ after_line text
+  pub part : IsPart text rest

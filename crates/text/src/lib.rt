@@ -1,6 +1,5 @@
 // The lines of a text, and what is sought in them.
 #![tactic(auto)]
 
-pub mod bytes;
 pub mod lines;
 pub mod search;

@@ -1,83 +1,92 @@
 // The lines of a text.
-ghost use Rattle.std.specs.Prelude.{◌≡◌, ◌≤◌, ◌<◌, length, take, drop};
+ghost use Rattle.std.specs.Prelude.{◌≡◌};
+ghost use Rattle.std.specs.Iterator.{YieldsFirstRef, item_count};
 ghost use Rattle.text.specs.Lines.{lines, whole_lines, begins_comment, without_comment, first_of, line_of, AfterLine};
 ghost use Rattle.text.specs.Lines as meaning;
 
-use crate::search::{Sought, find};
+use crate::search::{find, from};
+
+// The lines of what is left of a text, one by one, without their ends and their comments.
+#[derive(Clone, Copy)]
+pub struct Lines<'a> {
+    pub rest: &'a [u8],
+}
+
+impl<'a> Iterator for Lines<'a> {
+    type Item = &'a [u8];
+
+    ghost next_gives = { YieldsFirstRef (λ s. lines s.rest.now) };
+
+    ghost remaining = { item_count (λ s. lines s.rest.now) };
+
+    fn next(&mut self) -> Option<&'a [u8]> {
+        if self.rest.is_empty() {
+            return None;
+        }
+        let line = first_line(self.rest);
+        self.rest = after_line(self.rest);
+        Some(line)
+    }
+}
 
 // The first line of a text, without its end and its comment; empty where the text is.
 pub fn first_line(text: &[u8]) -> &[u8]
     ensures { result.now ≡ first_of (lines text.now) }
 {
-    let end = content_end(text);
-    let comment = comment_start(&text[0..end]);
-    &text[0..comment]
+    without_comment(first_whole_line(text))
 }
 
-// Where the comment of a line begins, or the length of the line.
-fn comment_start(line: &[u8]) -> usize
-    ensures { result ≡ length (without_comment line.now) }
+// What stands before the comment of a line.
+fn without_comment(line: &[u8]) -> &[u8]
+    ensures { result.now ≡ without_comment line.now }
 {
     let mut may_begin = true;
-    let mut at = 0;
-    while at < line.len() {
-        if may_begin & begins_comment(line, at) {
-            return at;
+    for (at, byte) in line.iter().enumerate() {
+        if may_begin & begins_comment(&line[at..]) {
+            return &line[..at];
         }
-        may_begin = line[at] == b' ';
-        at += 1;
+        may_begin = *byte == b' ';
     }
-    at
+    line
 }
 
-// Whether a number sign and a space stand at this place, and no carriage return after them.
-fn begins_comment(line: &[u8], at: usize) -> bool
-    requires { at < length line.now }
-    ensures { result ≡ begins_comment (drop at line.now) }
+// Whether a number sign and a space stand first, and no carriage return after them.
+fn begins_comment(text: &[u8]) -> bool
+    ensures { result ≡ begins_comment text.now }
 {
-    if at + 1 == line.len() {
-        return false;
-    }
-    (line[at] == b'#') & (line[at + 1] == b' ') & without_return(&line[at..])
+    text.starts_with(b"# ") & without_return(text)
 }
 
 fn without_return(text: &[u8]) -> bool
     ensures { result ≡ meaning.without_return text.now }
 {
-    find(text, Sought::Byte(b'\r')) == text.len()
+    find(text, |byte| byte == b'\r') == text.len()
 }
 
-// Where the first line's content ends. A carriage return before a line feed is no part of it.
-fn content_end(text: &[u8]) -> usize
-    ensures { (result ≤ length text.now) × (take result text.now ≡ first_of (whole_lines text.now)) }
+// The first line of a text with its comment. A carriage return before a line feed is no part of it.
+fn first_whole_line(text: &[u8]) -> &[u8]
+    ensures { result.now ≡ first_of (whole_lines text.now) }
 {
-    let end = find(text, Sought::Byte(b'\n'));
+    let end = find(text, |byte| byte == b'\n');
+    let line = &text[..end];
     if end == text.len() {
-        return end;
+        return line;
     }
-    if end == 0 {
-        return end;
-    }
-    if text[end - 1] == b'\r' { end - 1 } else { end }
+    line.strip_suffix(b"\r").unwrap_or(line)
 }
 
-// The length of the first line with its end: the text goes on there with the other lines.
-pub fn first_line_length(text: &[u8]) -> usize
-    ensures { AfterLine text.now result }
+// A text after its first line.
+pub fn after_line(text: &[u8]) -> &[u8]
+    ensures { AfterLine text.now result.now }
 {
-    let end = find(text, Sought::Byte(b'\n'));
-    if end < text.len() { end + 1 } else { end }
+    let end = from(text, |byte| byte == b'\n');
+    if end.is_empty() { end } else { &end[1..] }
 }
 
 // A line of a text, counted from 1, without its end and its comment; empty where there are fewer.
 pub fn line_at(text: &[u8], number: usize) -> &[u8]
     ensures { result.now ≡ line_of number (lines text.now) }
 {
-    let mut start = 0;
-    let mut left = number;
-    while left > 1 {
-        start += first_line_length(&text[start..]);
-        left -= 1;
-    }
-    first_line(&text[start..])
+    let before = number.saturating_sub(1);
+    Lines { rest: text }.nth(before).unwrap_or(&[])
 }

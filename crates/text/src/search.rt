@@ -1,49 +1,45 @@
 // The first byte of a text that is sought.
-ghost use Rattle.std.specs.Prelude.{◌≡◌, length};
-ghost use Rattle.text.specs.Search.{parts_words, is_sought, before};
-
-// What a search stops at.
-#[derive(Clone, Copy)]
-pub enum Sought {
-    Byte(u8),
-    // a comma, a semicolon or a tab
-    Separator,
-    NotSpace,
-    NeitherSpaceNor(u8),
-    // the end of a word and the start of one, where this separator, spaces and double quotes part words
-    WordEnd(u8),
-    WordStart(u8),
-}
+ghost use Rattle.std.specs.Prelude.{◌≡◌, ◌≤◌, Bool, ℕ, length};
+ghost use Rattle.text.specs.Search.{Computes, before, from};
+ghost use Rattle.text.specs.Search as meaning;
 
 // The place of the first byte that is sought, or the length of the text.
-pub fn find(text: &[u8], sought: Sought) -> usize
-    ensures { result ≡ length (before sought text.now) }
+pub fn find<F: Fn(u8) -> bool>(text: &[u8], sought: F) -> usize
+    requires { F.IsAlwaysCallable sought }
+    ensures within { result ≤ length text.now }
+    ensures first { (test : ℕ → Bool) → Computes (F.post sought) test → result ≡ length (before test text.now) }
 {
-    let mut at = 0;
-    while at < text.len() {
-        if is_sought(text[at], sought) {
-            return at;
-        }
-        at += 1;
-    }
-    at
+    text.iter()
+        .position(|byte| sought(*byte))
+        .unwrap_or(text.len())
 }
 
-fn is_sought(byte: u8, sought: Sought) -> bool
-    ensures { result ≡ is_sought sought byte }
+// A text up to the first byte that is sought.
+pub fn before<F: Fn(u8) -> bool>(text: &[u8], sought: F) -> &[u8]
+    requires { F.IsAlwaysCallable sought }
+    ensures { (test : ℕ → Bool) → Computes (F.post sought) test → result.now ≡ before test text.now }
 {
-    match sought {
-        Sought::Byte(other) => byte == other,
-        Sought::Separator => (byte == b',') | (byte == b';') | (byte == b'\t'),
-        Sought::NotSpace => byte != b' ',
-        Sought::NeitherSpaceNor(other) => (byte != b' ') & (byte != other),
-        Sought::WordEnd(separator) => parts_words(byte, separator),
-        Sought::WordStart(separator) => !parts_words(byte, separator),
-    }
+    &text[..find(text, sought)]
 }
 
-fn parts_words(byte: u8, separator: u8) -> bool
-    ensures { result ≡ parts_words separator byte }
+// A text from the first byte on that is sought.
+pub fn from<F: Fn(u8) -> bool>(text: &[u8], sought: F) -> &[u8]
+    requires { F.IsAlwaysCallable sought }
+    ensures { (test : ℕ → Bool) → Computes (F.post sought) test → result.now ≡ from test text.now }
+{
+    &text[find(text, sought)..]
+}
+
+// A comma, a semicolon or a tab.
+pub fn is_separator(byte: u8) -> bool
+    ensures { result ≡ meaning.is_separator byte }
+{
+    matches!(byte, b',' | b';' | b'\t')
+}
+
+// Whether words are parted here: by spaces, double quotes and this separator.
+pub fn parts_words(byte: u8, separator: u8) -> bool
+    ensures { result ≡ meaning.parts_words separator byte }
 {
     (byte == b' ') | (byte == b'"') | (byte == separator)
 }

@@ -1,35 +1,28 @@
 -- Question 8: one exposure that passed or was refused, and the question as document 01 asks it.
-use mathlib.Core.Path.{◌≡◌, ap, ◌∙◌}
-use mathlib.Core.Bool.{true, false}
-use mathlib.Core.List.{List}
-use Prim.Native.Nat.{ℕ, suc, ◌+◌, ◌-◌, ◌<◌}
-use native.Mathlib.Numerals.{add-one}
-use native.Mathlib.Omega.{arith}
-use lib.IntN.{ℤ, pos}
-use lib.ListN.{get_or}
+use Rattle.std.proofs.Common.{◌≡◌, List, ℕ, ℤ, suc, ◌+◌, ◌-◌, ◌≤◌, ◌<◌, pos, get_or, ap, subst, ◌∙◌, add-one, arith}
 use lib.Signed.{lt_z}
 use Rattle.method.specs.Triangle.{Triangle, n}
 use Rattle.method.specs.Outstandings as meaning
 use Rattle.method.specs.Outstandings.{sums}
-use Rattle.method.specs.Verdicts.{accepted, refused, at, ask}
+use Rattle.method.specs.Verdicts.{Place, accepted, refused, at, ask, first_to}
 use Rattle.method.specs.Questions.{question_8}
-use Rattle.method.proofs.FirstRefusal.{ask_yes, ask_no, first_same}
+use Rattle.method.proofs.FirstRefusal.{first_same, PassedSoFar, next_accepted, next_refused}
 use Rattle.ratios.specs.declared.Sums.{Sums}
 use Rattle.ratios.specs.Ratios.{no_sums, DevelopmentOf}
 use Rattle.triangle.specs.Reading.{exposure_of_year, exposures}
 
--- number j of the years, counted from 0
-module _ (years : List Sums) (j : ℕ) where
-  there : j + 1 - 1 ≡ j
-  there = omega arith
+-- development year k, where those before it have passed
+module _ (count : ℕ) (ratios : List Sums) (k : ℕ) (s : PassedSoFar (count - 1) (exposure_of_year ratios) (k - 1)) (first : 1 ≤ k) (more : k < count) where
+  here : k - 1 + 1 ≡ k
+  here = omega arith
 
-  pub exposure_passed : lt_z (pos 0) (get_or years j no_sums).exposure ≡ true → exposure_of_year years (j + 1) ≡ accepted
-  unfolding exposure_of_year
-  exposure_passed e = ask_yes _ 8 (at 0 (j + 1)) (ap (λ (x : ℕ). lt_z (pos 0) (get_or years x no_sums).exposure) there ∙ e)
+  pub year_passed : exposure_of_year ratios k ≡ accepted → PassedSoFar (count - 1) (exposure_of_year ratios) (k + 1 - 1)
+  year_passed e =
+      let next : k - 1 + 1 ≡ k + 1 - 1 = omega arith in
+      subst (PassedSoFar (count - 1) (exposure_of_year ratios)) next (next_accepted s (omega arith) (ap (exposure_of_year ratios) here ∙ e))
 
-  pub exposure_refused : lt_z (pos 0) (get_or years j no_sums).exposure ≡ false → exposure_of_year years (j + 1) ≡ refused 8 (at 0 (j + 1))
-  unfolding exposure_of_year
-  exposure_refused e = ask_no _ 8 (at 0 (j + 1)) (ap (λ (x : ℕ). lt_z (pos 0) (get_or years x no_sums).exposure) there ∙ e)
+  pub year_refused : {question : ℕ} {p : Place} → exposure_of_year ratios k ≡ refused question p → first_to (count - 1) (exposure_of_year ratios) ≡ refused question p
+  year_refused e = next_refused s (omega arith) (ap (exposure_of_year ratios) here ∙ e)
 
 pub question_8_is : (t : Triangle) (years : List Sums) (outstandings : List ℤ) → DevelopmentOf t years outstandings → exposures (n t) years ≡ question_8 t
 unfolding exposures exposure_of_year question_8

@@ -1,54 +1,30 @@
--- Reading a triangle: what makes up the answer, accepted or refused, and what a triangle which passed questions 1 to 7 shows.
-use mathlib.Core.Path.{◌≡◌, refl, sym, ap, ◌∙◌, subst}
-use mathlib.Core.Bool.{true}
-use mathlib.Core.List.{List}
-use Prim.Native.Nat.{ℕ}
-use lib.IntN.{ℤ, nat_abs}
+-- Reading a triangle: an answer that is a refusal, and what a triangle which passed questions 1 to 7 shows.
+use Rattle.std.proofs.Common.{◌≡◌, true, sym, ap, ◌∙◌, Option, Result, Ok, Err}
+use Rattle.std.specs.Result.{IsErrAnd}
 use Rattle.method.specs.Triangle.{Triangle}
-use Rattle.method.specs.Verdicts.{Place, Verdict, accepted, refused}
-use Rattle.method.specs.Questions.{input_lengths_right, input_questions, observed_questions}
-use Rattle.method.proofs.QuestionFacts as facts
-use Rattle.method.proofs.QuestionFacts.{Observed, observed_triangle}
-use Rattle.verdicts.specs.declared.verdict.Verdict as code
+use Rattle.method.specs.Verdicts.{accepted}
+use Rattle.method.specs.Questions.{input_questions, observed_questions}
+use Rattle.method.proofs.QuestionFacts.{Observed, observed_triangle, question_3_said_yes}
+use Rattle.lent.specs.declared.AnswerLengths.{AnswerLengths}
+use Rattle.lent.specs.Triangles.{lists_right}
+use Rattle.verdicts.specs.declared.verdict.Refusal.{Refusal}
 use Rattle.verdicts.specs.Verdicts.{verdict_of}
-use Rattle.list_lengths.specs.declared.AnswerLists.{AnswerLists}
-use Rattle.questions.specs.Inputs.{triangle_of, counted, lists_right}
+use Rattle.questions.proofs.Counted.{lists_have_lengths, inputs_right}
 use Rattle.ratios.specs.declared.Development.{Development}
-use Rattle.ratios.specs.Ratios.{DevelopmentOf, Readable, DevelopmentRead}
-use Rattle.triangle.specs.Reading.{no_development, DevelopmentIs, ReadingOf}
-use Rattle.questions.proofs.Counted.{lists_have_lengths, inputs_right, counted_is}
+use Rattle.ratios.specs.Ratios.{Readable}
+use Rattle.triangle.specs.Reading.{ReadingOf}
 
-module _ (t : Triangle) (answers : AnswerLists) (v : code.Verdict) (e : verdict_of v ≡ observed_questions t (lists_right t answers)) where
-  pub refused_reading : {question : ℕ} {p : Place} → verdict_of v ≡ refused question p → ReadingOf t answers (record { verdict = v; development = no_development })
-  unfolding DevelopmentIs
-  refused_reading r = record { verdict_is = e; development_is = subst (λ (x : Verdict). DevelopmentIs t x no_development) (sym r ∙ e) refl }
+module _ (t : Triangle) (answers : Option AnswerLengths) where
+  pub refused_reading : (r : Result Development Refusal) (P : Refusal → Type 0) → IsErrAnd r P → verdict_of r ≡ observed_questions t (lists_right t answers) → ReadingOf t answers r
+  refused_reading (Ok d) P h e = absurd h
+  refused_reading (Err x) P h e = record { verdict_is = e; development_is = tt }
 
-  pub accepted_reading : (d : Development) → verdict_of v ≡ accepted → DevelopmentOf t d.ratios d.outstandings
-      → ReadingOf t answers (record { verdict = v; development = d })
-  unfolding DevelopmentIs
-  accepted_reading d a r = record { verdict_is = e; development_is = subst (λ (x : Verdict). DevelopmentIs t x d) (sym a ∙ e) r }
-
--- a triangle that passed questions 1 to 7
-module _ (years cut : ℤ) (payments adjustments weights openings : List ℤ) (answers : AnswerLists) where
-  abbrev t : Triangle
-  t = triangle_of years cut payments adjustments weights openings
-
+  -- where questions 1 to 7 accepted
   module _ (e : input_questions t (lists_right t answers) ≡ accepted) where
     pub observed : Observed t
     observed = observed_triangle t (lists_right t answers) (lists_have_lengths t answers) e
 
-    same : t ≡ counted (nat_abs years) (nat_abs cut) payments adjustments weights openings
-    same = counted_is years cut payments adjustments weights openings observed.years observed.cut
-
-    pub readable : Readable (nat_abs years) payments adjustments weights openings
+    pub readable : Readable t
     readable =
-        let yes : lists_right t answers ≡ true = facts.question_3_said_yes t (lists_right t answers) e in
-        record {
-          cut = nat_abs cut;
-          inputs_right = subst (λ (x : Triangle). input_lengths_right x ≡ true) same (inputs_right t answers yes);
-          passed = subst (λ (x : Triangle). input_questions x true ≡ accepted) same (ap (input_questions t) (sym yes) ∙ e);
-        }
-
-    pub development_is : (d : Development) → DevelopmentRead (nat_abs years) payments adjustments weights openings d.ratios d.outstandings
-        → DevelopmentOf t d.ratios d.outstandings
-    development_is d r = subst (λ (x : Triangle). DevelopmentOf x d.ratios d.outstandings) (sym same) (r.development (nat_abs cut))
+        let yes : lists_right t answers ≡ true = question_3_said_yes t (lists_right t answers) e in
+        record { cut = t.cut; inputs_right = inputs_right t answers yes; passed = ap (input_questions t) (sym yes) ∙ e }

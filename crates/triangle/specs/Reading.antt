@@ -1,30 +1,21 @@
 -- What reading a triangle answers.
-use Rattle.std.specs.Prelude.{◌≡◌, List, ℕ, ◌-◌, pos, get_or, replicate}
+use Rattle.std.specs.Prelude.{◌≡◌, List, ℕ, ◌-◌, pos, get_or, Option, Result, IfOk}
 use Rattle.std.specs.Int.Signed.{lt_z}
-use Rattle.method.specs.Limits.{most_accident_years, most_ratios}
 use Rattle.method.specs.Triangle.{Triangle}
-use Rattle.method.specs.Verdicts.{Verdict, accepted, refused, at, ask, first_to}
+use Rattle.method.specs.Verdicts.{Verdict, at, ask, first_to}
 use Rattle.method.specs.Questions.{observed_questions}
+use Rattle.lent.specs.declared.AnswerLengths.{AnswerLengths}
+use Rattle.lent.specs.Triangles.{lists_right}
+use Rattle.verdicts.specs.declared.verdict.Refusal.{Refusal}
 use Rattle.verdicts.specs.Verdicts.{verdict_of}
-use Rattle.list_lengths.specs.declared.AnswerLists.{AnswerLists}
-use Rattle.questions.specs.Inputs.{lists_right}
 use Rattle.ratios.specs.declared.Development.{Development}
 use Rattle.ratios.specs.declared.Sums.{Sums}
 use Rattle.ratios.specs.Ratios.{no_sums, DevelopmentOf}
-use Rattle.triangle.specs.declared.reading.Reading.{Reading}
 
-abbrev pub no_development : Development
-no_development = record { ratios = replicate most_ratios no_sums; outstandings = replicate most_accident_years (pos 0) }
-
--- what is read of an accepted triangle, at every place of both lists; zeros where it is refused
-unfoldable pub DevelopmentIs : Triangle → Verdict → Development → Type 0
-DevelopmentIs t accepted d = DevelopmentOf t d.ratios d.outstandings
-DevelopmentIs t (refused question p) d = d ≡ no_development
-
--- the whole answer
-pub record ReadingOf (t : Triangle) (answers : AnswerLists) (r : Reading) : Type 0 where
-  pub verdict_is : verdict_of r.verdict ≡ observed_questions t (lists_right t answers)
-  pub development_is : DevelopmentIs t (observed_questions t (lists_right t answers)) r.development
+-- the whole answer: the verdict, and what is read of an accepted triangle, at every place of both lists
+pub record ReadingOf (t : Triangle) (answers : Option AnswerLengths) (r : Result Development Refusal) : Type 0 where
+  pub verdict_is : verdict_of r ≡ observed_questions t (lists_right t answers)
+  pub development_is : IfOk r (λ d. DevelopmentOf t d.ratios d.outstandings)
 
 -- ---- Question 8 of the ratios of development years 1 to n − 1
 

@@ -7,17 +7,14 @@ use native.Mathlib.Omega.{arith}
 use borrow.Author.Tests.{eqb-true, lt-leb}
 use lib.Dec.{eqb, leb}
 use lib.ListN.{length, length-append}
+use Rattle.std.specs.Prelude.{Ok, Err}
 use Rattle.text.specs.Lines.{lines, others_of}
 use Rattle.line_parts.specs.Cells.{separator_of}
 use Rattle.line_kinds.specs.Kinds.{kind_of, is_heading, has_rows, same_kind}
 use Rattle.headings.specs.Places.{from_heading, number_after_lines, line_number, left_after, row_line_after, row_line}
-use Rattle.heading_faults.specs.Faults.{check, line_check, under_after, or_later, fault_after, heading_fault}
+use Rattle.heading_faults.specs.Faults.{Checked, FirstFault, check, line_check, under_after, or_later, fault_after, heading_fault}
 use Rattle.line_kinds.specs.declared.kinds.LineKind.{LineKind}
 use Rattle.line_kinds.specs.declared.kinds.LineKind.TheVariants.{Blank, Separators, Payments, Adjustments, Weights, Openings, Cut, Cell, Row, Unknown}
-use Rattle.heading_faults.specs.declared.Checked.{Checked}
-use Rattle.heading_faults.specs.declared.Checked.TheVariants.{Right, Wrong}
-use Rattle.heading_faults.specs.declared.FirstFault.{FirstFault}
-use Rattle.heading_faults.specs.declared.FirstFault.TheVariants.{Nothing, At}
 use Rattle.heading_faults.specs.declared.HeadingFault.{HeadingFault}
 use Rattle.heading_faults.specs.declared.HeadingFault.TheVariants.{HeadingOnce}
 use Rattle.triangle_text.specs.declared.reading.Asked.{Asked}
@@ -26,28 +23,28 @@ use Rattle.triangle_text.specs.EveryLine.{RowOf, LineRead, LinesRead, EveryLineR
 
 -- ---- What a right check tells
 
-right_not_wrong : (fault : HeadingFault) → Wrong fault ≡ Right → ⊥
+right_not_wrong : (fault : HeadingFault) → ◌≡◌ {A = Checked} (Err fault) (Ok tt) → ⊥
 right_not_wrong fault e = let z : ◌≡◌ {A = ℕ} 0 1 = cc in omega arith
 
-right_test : (b : Bool) (fault : HeadingFault) → check b fault ≡ Right → b ≡ true
+right_test : (b : Bool) (fault : HeadingFault) → check b fault ≡ Ok tt → b ≡ true
 right_test true fault e = refl
 right_test false fault e = absurd (right_not_wrong fault e)
 
-right_failed_test : (b : Bool) (fault : HeadingFault) → check (not b) fault ≡ Right → b ≡ false
+right_failed_test : (b : Bool) (fault : HeadingFault) → check (not b) fault ≡ Ok tt → b ≡ false
 right_failed_test true fault e = absurd (right_not_wrong fault e)
 right_failed_test false fault e = refl
 
-right_first : (a b : ℕ) (words : Checked) → cond (eqb a b) words (Wrong HeadingOnce) ≡ Right → a ≡ b
+right_first : (a b : ℕ) (words : Checked) → cond (eqb a b) words (Err HeadingOnce) ≡ Ok tt → a ≡ b
 right_first a b words e = go (eqb a b) refl e
   where
-    go : (same : Bool) → eqb a b ≡ same → cond same words (Wrong HeadingOnce) ≡ Right → a ≡ b
+    go : (same : Bool) → eqb a b ≡ same → cond same words (Err HeadingOnce) ≡ Ok tt → a ≡ b
     go true same e = eqb-true a b same
     go false same e = absurd (right_not_wrong HeadingOnce e)
 
 -- no fault in a line and those after it
-no_fault_here : (checked : Checked) (number : ℕ) (later : FirstFault) → or_later checked number later ≡ Nothing → (checked ≡ Right) × (later ≡ Nothing)
-no_fault_here Right number later e = (refl, e)
-no_fault_here (Wrong fault) number later e = absurd (let z : ◌≡◌ {A = ℕ} 0 1 = cc in omega arith)
+no_fault_here : (checked : Checked) (number : ℕ) (later : FirstFault) → or_later checked number later ≡ Ok tt → (checked ≡ Ok tt) × (later ≡ Ok tt)
+no_fault_here (Ok nothing) number later e = (refl, e)
+no_fault_here (Err fault) number later e = absurd (let z : ◌≡◌ {A = ℕ} 0 1 = cc in omega arith)
 
 module _ (separator : ℕ) where
   -- ---- Where a heading stands that is the first of its kind
@@ -151,7 +148,7 @@ module _ (separator : ℕ) where
       abbrev Passed : LineKind → Type 0
       Passed kind = LineRead separator all (suc number) under kind × ReadTo (suc number) (under_after under kind) rest
 
-      by_kind : (kind : LineKind) → kind_of separator line ≡ kind → line_check separator all (suc number) under line kind ≡ Right → Passed kind
+      by_kind : (kind : LineKind) → kind_of separator line ≡ kind → line_check separator all (suc number) under line kind ≡ Ok tt → Passed kind
       by_kind Blank is right = (tt, passed Blank is refl refl)
       by_kind Separators is right = (right_failed_test (has_rows under) _ right, passed Separators is refl refl)
       by_kind Payments is right = let first = right_first _ _ _ right in (first, heading_passed Payments (ap (λ kind. same_kind kind Payments) is) first)
@@ -163,7 +160,7 @@ module _ (separator : ℕ) where
       by_kind Row is right = (row_here is (right_test (has_rows under) _ right), row_passed is)
       by_kind Unknown is right = absurd (right_not_wrong _ right)
 
-    lines_read : (rest : List (List ℕ)) (number : ℕ) (under : LineKind) → ReadTo number under rest → fault_after separator all number under rest ≡ Nothing
+    lines_read : (rest : List (List ℕ)) (number : ℕ) (under : LineKind) → ReadTo number under rest → fault_after separator all number under rest ≡ Ok tt
         → LinesRead separator all number under rest
     unfolding fault_after LinesRead
     lines_read [] number under so_far none = tt
@@ -172,7 +169,7 @@ module _ (separator : ℕ) where
         let read = by_kind number under line rest so_far (kind_of separator line) refl right.0 in
         (read.0, lines_read rest (suc number) (under_after under (kind_of separator line)) read.1 right.1)
 
-    every_line_read : heading_fault separator all ≡ Nothing → EveryLineRead separator all
+    every_line_read : heading_fault separator all ≡ Ok tt → EveryLineRead separator all
     every_line_read none = lines_read all 0 Blank nothing_read none
       where
         nothing_read : ReadTo 0 Blank all
@@ -187,9 +184,9 @@ module _ (separator : ℕ) where
 -- ---- Every text
 
 no_fault_of : (separator : ℕ) (all : List (List ℕ)) (fault : FirstFault) (read : Reading) (asked : Asked) (lists : Lists)
-    → unless_fault separator all fault read ≡ triangle asked lists → fault ≡ Nothing
-no_fault_of separator all Nothing read asked lists e = refl
-no_fault_of separator all (At line fault) read asked lists e = absurd (let z : ◌≡◌ {A = ℕ} 0 1 = cc in omega arith)
+    → unless_fault separator all fault read ≡ triangle asked lists → fault ≡ Ok tt
+no_fault_of separator all (Ok nothing) read asked lists e = refl
+no_fault_of separator all (Err misplaced) read asked lists e = absurd (let z : ◌≡◌ {A = ℕ} 0 1 = cc in omega arith)
 
 pub every_line_of_every_text : EveryLineOfEveryText
 unfolding reading reading_of

@@ -7,17 +7,18 @@ use native.Mathlib.Nat.{mul-le-mul_left, mul-le-mul_right}
 use native.Mathlib.Omega.{arith}
 use lib.Dec.{eqb}
 use lib.IntN.{ℤ, pos, nat_abs}
-use lib.ListN.{length, get_or, drop, length-drop}
+use lib.ListN.{length, get_or, take, drop, length-drop, length-take}
+use lib.Seq.{length-take-le}
 use mir.Syntax.{w64}
 use mir.Val.{SFits}
+use Rattle.std.specs.Prelude.{Result, Ok, Err, IfOk}
 use Rattle.integers.proofs.RingSolver.{con}
 use Rattle.integers.proofs.LinearFacts.{fits_by}
 use Rattle.text.specs.Bytes.{longest_text}
 use Rattle.text.specs.Lines.{lines}
 use Rattle.line_parts.specs.Cells.{separator_of}
 use Rattle.heading_faults.specs.Faults.{heading_fault}
-use Rattle.heading_faults.specs.declared.HeadingFault.{HeadingFault}
-use Rattle.heading_faults.specs.declared.FirstFault as heading
+use Rattle.heading_faults.specs.declared.MisplacedLine.{MisplacedLine}
 use Rattle.method.specs.Limits.{most_accident_years}
 use Rattle.method.specs.Triangle.{amounts_length}
 use Rattle.method.specs.Verdicts.{ask}
@@ -25,13 +26,9 @@ use Rattle.method.specs.Tests.{years_in_range, cut_in_range}
 use Rattle.method.specs.Questions.{question_1, question_2}
 use Rattle.method.proofs.Tests.{and-true}
 use Rattle.method.proofs.QuestionFacts.{YearsInRange, CutInRange, years_accepted, cut_accepted}
-use Rattle.blocks.specs.Blocks.{Block, numbers, faulty, BlockReadAs}
-use Rattle.blocks.specs.Blocks as block
-use Rattle.triangle_text.specs.Reading.{lists_wanted, Lists, Reading, triangle, malformed, then_read, first_fault, fault_of, no_lists_read, asked_in, lists_in, with_headings, reading_of, without_mark, reading, TextReadAs}
-use Rattle.blocks.specs.declared.faults.Expected.TheVariants.{InHeading}
+use Rattle.blocks.specs.Blocks.{Block, of_heading}
 use Rattle.blocks.specs.declared.faults.Fault.{Fault}
-use Rattle.blocks.specs.declared.faults.Fault.TheVariants.{Nothing, At}
-use Rattle.blocks.specs.declared.lines.BlockRead.{BlockRead}
+use Rattle.triangle_text.specs.Reading.{lists_wanted, Lists, Reading, triangle, malformed, then_read, counted, as_many, asked_in, lists_in, with_headings, reading_of, without_mark, reading, TextReadAs, Within}
 use Rattle.triangle_text.specs.declared.reading.Asked.{Asked}
 use Rattle.triangle_text.specs.declared.reading.TextRead.{TextRead}
 
@@ -54,6 +51,37 @@ amounts_fit n most few =
     let high : most * (n + 1) ≤ most * (most + 1) = mul-le-mul_left most (omega arith) in
     omega arith
 
+-- ---- What is known of a text
+
+module _ {meaning : Reading} {r : Result TextRead Fault} {payments adjustments weights openings : List ℤ} where
+  pub text_wrong : {fault : Fault} → meaning ≡ malformed fault.line fault.cell fault.expected → r ≡ Err fault → TextReadAs meaning r payments adjustments weights openings
+  text_wrong means is = record { read_is = is ∙ sym (ap counted means); lists_are = λ asked lists e. cc }
+
+  -- the numbers from the left of each list
+  pub text_right : {asked : Asked} {lists : Lists} → meaning ≡ triangle asked lists → r ≡ counted (triangle asked lists)
+      → as_many lists payments adjustments weights openings ≡ lists → TextReadAs meaning r payments adjustments weights openings
+  text_right {asked} {lists} means is read = record {
+    read_is = is ∙ sym (ap counted means);
+    lists_are = λ other others e. let same : triangle asked lists ≡ triangle other others = sym means ∙ e in let lists_same : lists ≡ others = cc in
+        rw lists_same at read;
+  }
+
+-- no list is read beyond its end
+pub lists_within : (meaning : Reading) (r : Result TextRead Fault) {payments adjustments weights openings : List ℤ}
+    → TextReadAs meaning r payments adjustments weights openings → IfOk r (λ read. Within read payments adjustments weights openings)
+lists_within meaning (Err fault) answer = tt
+lists_within (malformed line cell expected) (Ok read) answer = let told = answer.read_is in cc
+lists_within (triangle asked lists) (Ok read) {payments} {adjustments} {weights} {openings} answer =
+    let told = answer.read_is in
+    let same : read ≡ record { asked = asked; payments = length lists.payments; adjustments = length lists.adjustments; weights = length lists.weights; openings = length lists.openings } = cc in
+    let lists_are = answer.lists_are asked lists refl in
+    rw same (record {
+      payments_within = omega (arith, ap (λ (l : Lists). length l.payments) lists_are, length-take (length lists.payments) payments);
+      adjustments_within = omega (arith, ap (λ (l : Lists). length l.adjustments) lists_are, length-take (length lists.adjustments) adjustments);
+      weights_within = omega (arith, ap (λ (l : Lists). length l.weights) lists_are, length-take (length lists.weights) weights);
+      openings_within = omega (arith, ap (λ (l : Lists). length l.openings) lists_are, length-take (length lists.openings) openings);
+    })
+
 -- ---- The four lists
 
 module _ (asked : Asked) where
@@ -63,71 +91,17 @@ module _ (asked : Asked) where
       then_read paid (λ payments. then_read adjusted (λ adjustments. then_read weighted (λ weights. then_read opened (λ openings.
       triangle asked record { payments = payments; adjustments = adjustments; weights = weights; openings = openings }))))
 
-  abbrev faults : Block → Block → Block → Block → Fault
-  faults paid adjusted weighted opened =
-      first_fault (block.fault_of paid) (first_fault (block.fault_of adjusted) (first_fault (block.fault_of weighted) (block.fault_of opened)))
-
-  fault_of_blocks : (paid adjusted weighted opened : Block) → faults paid adjusted weighted opened ≡ fault_of (of_blocks paid adjusted weighted opened)
-  fault_of_blocks (faulty line cell expected) adjusted weighted opened = refl
-  fault_of_blocks (numbers payments) (faulty line cell expected) weighted opened = refl
-  fault_of_blocks (numbers payments) (numbers adjustments) (faulty line cell expected) opened = refl
-  fault_of_blocks (numbers payments) (numbers adjustments) (numbers weights) (faulty line cell expected) = refl
-  fault_of_blocks (numbers payments) (numbers adjustments) (numbers weights) (numbers openings) = refl
-
-  -- all four have numbers, and these are the lists
-  record AllRead (paid adjusted weighted opened : Block) (other : Asked) (lists : Lists) : Type 0 where
-    asked_is : asked ≡ other
-    payments_are : paid ≡ numbers lists.payments
-    adjustments_are : adjusted ≡ numbers lists.adjustments
-    weights_are : weighted ≡ numbers lists.weights
-    openings_are : opened ≡ numbers lists.openings
-
-  all_read : (paid adjusted weighted opened : Block) {other : Asked} {lists : Lists}
-      → of_blocks paid adjusted weighted opened ≡ triangle other lists → AllRead paid adjusted weighted opened other lists
-  all_read (faulty line cell expected) adjusted weighted opened e = let z : ◌≡◌ {A = ℕ} 0 1 = cc in absurd (omega arith)
-  all_read (numbers payments) (faulty line cell expected) weighted opened e = let z : ◌≡◌ {A = ℕ} 0 1 = cc in absurd (omega arith)
-  all_read (numbers payments) (numbers adjustments) (faulty line cell expected) opened e = let z : ◌≡◌ {A = ℕ} 0 1 = cc in absurd (omega arith)
-  all_read (numbers payments) (numbers adjustments) (numbers weights) (faulty line cell expected) e = let z : ◌≡◌ {A = ℕ} 0 1 = cc in absurd (omega arith)
-  all_read (numbers payments) (numbers adjustments) (numbers weights) (numbers openings) {other} {lists} e =
-      let same : record { payments = payments; adjustments = adjustments; weights = weights; openings = openings } ≡ lists = cc in
-      record {
-        asked_is = cc;
-        payments_are = ap (λ (l : Lists). numbers l.payments) same;
-        adjustments_are = ap (λ (l : Lists). numbers l.adjustments) same;
-        weights_are = ap (λ (l : Lists). numbers l.weights) same;
-        openings_are = ap (λ (l : Lists). numbers l.openings) same;
-      }
-
-  module _ {paid adjusted weighted opened : Block} {p a w o : BlockRead} {payments adjustments weights openings : List ℤ}
-      (in_payments : BlockReadAs paid p payments) (in_adjustments : BlockReadAs adjusted a adjustments)
-      (in_weights : BlockReadAs weighted w weights) (in_openings : BlockReadAs opened o openings) where
-    -- the first fault of the four, and how many numbers of each
-    abbrev pub whole_text_read : TextRead
-    whole_text_read = record {
-      fault = first_fault p.fault (first_fault a.fault (first_fault w.fault o.fault));
-      asked = asked;
-      payments = p.count;
-      adjustments = a.count;
-      weights = w.count;
-      openings = o.count;
-    }
-
-    pub blocks_read : TextReadAs (of_blocks paid adjusted weighted opened) whole_text_read payments adjustments weights openings
-    blocks_read = record {
-      fault_is = rw (in_payments.fault_is, in_adjustments.fault_is, in_weights.fault_is, in_openings.fault_is) (fault_of_blocks paid adjusted weighted opened);
-      asked_is = λ other lists e. (all_read paid adjusted weighted opened e).asked_is;
-      lists_are = λ other lists e.
-          let all = all_read paid adjusted weighted opened {other = other} {lists = lists} e in
-          let ps = in_payments.numbers_are lists.payments all.payments_are in
-          let as' = in_adjustments.numbers_are lists.adjustments all.adjustments_are in
-          let ws = in_weights.numbers_are lists.weights all.weights_are in
-          let os = in_openings.numbers_are lists.openings all.openings_are in
-          rw (ps, as', ws, os) refl;
-      payments_within = in_payments.within;
-      adjustments_within = in_adjustments.within;
-      weights_within = in_weights.within;
-      openings_within = in_openings.within;
-    }
+  pub all_read : {paid adjusted weighted opened : Block} {ps as' ws os : List ℤ} (p a w o : ℕ)
+      → paid ≡ Ok (take p ps) → adjusted ≡ Ok (take a as') → weighted ≡ Ok (take w ws) → opened ≡ Ok (take o os)
+      → p ≤ length ps → a ≤ length as' → w ≤ length ws → o ≤ length os
+      → TextReadAs (of_blocks paid adjusted weighted opened) (Ok record { asked = asked; payments = p; adjustments = a; weights = w; openings = o }) ps as' ws os
+  all_read {paid} {adjusted} {weighted} {opened} {ps} {as'} {ws} {os} p a w o paid_is adjusted_is weighted_is opened_is pl al wl ol =
+      let long_p : length (take p ps) ≡ p = length-take-le p ps pl in
+      let long_a : length (take a as') ≡ a = length-take-le a as' al in
+      let long_w : length (take w ws) ≡ w = length-take-le w ws wl in
+      let long_o : length (take o os) ≡ o = length-take-le o os ol in
+      text_right {asked = asked} {lists = record { payments = take p ps; adjustments = take a as'; weights = take w ws; openings = take o os }}
+      (rw (paid_is, adjusted_is, weighted_is, opened_is)) (rw (long_p, long_a, long_w, long_o)) (rw (long_p, long_a, long_w, long_o))
 
 -- ---- The whole text
 
@@ -148,48 +122,27 @@ module _ (bytes text : List ℕ) (is : text ≡ without_mark bytes) (separator :
   unfolding reading
   is_reading = rw (parted, is)
 
-  module _ {asked : Asked} (told : asked ≡ asked_in separator (lines text)) where
-    -- the headings have a fault
-    pub faulty_headings : {line : ℕ} {fault : HeadingFault} {r : TextRead} {payments adjustments weights openings : List ℤ}
-        → heading_fault separator (lines text) ≡ heading.TheVariants.At line fault → r ≡ no_lists_read (At line 0 (InHeading fault)) asked
-        → TextReadAs (reading bytes) r payments adjustments weights openings
+  -- the headings have a fault
+  pub faulty_headings : {misplaced : MisplacedLine} {r : Result TextRead Fault} {payments adjustments weights openings : List ℤ}
+      → heading_fault separator (lines text) ≡ Err misplaced → r ≡ Err (of_heading misplaced)
+      → TextReadAs (reading bytes) r payments adjustments weights openings
+  unfolding reading_of
+  faulty_headings {misplaced} e answer = text_wrong {fault = of_heading misplaced} (sym is_reading ∙ rw e) answer
+
+  module _ {asked : Asked} (told : asked ≡ asked_in separator (lines text)) (right : heading_fault separator (lines text) ≡ Ok tt) where
+    right_headings : with_headings separator (lines text) asked ≡ reading bytes
     unfolding reading_of
-    faulty_headings {line} {fault} {r} {payments} {adjustments} {weights} {openings} e answer =
-        let means : reading bytes ≡ malformed line 0 (InHeading fault) = sym is_reading ∙ rw e in
-        rw answer (record {
-          fault_is = sym (ap fault_of means);
-          asked_is = λ other lists m. let z : ◌≡◌ {A = ℕ} 0 1 = cc in absurd (omega arith);
-          lists_are = λ other lists m. let z : ◌≡◌ {A = ℕ} 0 1 = cc in absurd (omega arith);
-          payments_within = omega arith;
-          adjustments_within = omega arith;
-          weights_within = omega arith;
-          openings_within = omega arith;
-        })
+    right_headings = rw told (sym (rw right at (sym is_reading)))
 
-    module _ (right : heading_fault separator (lines text) ≡ heading.TheVariants.Nothing) where
-      right_headings : with_headings separator (lines text) asked ≡ reading bytes
-      unfolding reading_of
-      right_headings = rw told (sym (rw right at (sym is_reading)))
+    -- questions 1 and 2 refuse
+    pub no_lists_wanted : {r : Result TextRead Fault} {payments adjustments weights openings : List ℤ} → lists_wanted asked.years asked.cut ≡ false
+        → r ≡ Ok record { asked = asked; payments = 0; adjustments = 0; weights = 0; openings = 0 } → TextReadAs (reading bytes) r payments adjustments weights openings
+    unfolding with_headings
+    no_lists_wanted e answer =
+        text_right {asked = asked} {lists = record { payments = []; adjustments = []; weights = []; openings = [] }} (sym right_headings ∙ rw e) answer refl
 
-      -- questions 1 and 2 refuse
-      pub no_lists_wanted : {r : TextRead} {payments adjustments weights openings : List ℤ} → lists_wanted asked.years asked.cut ≡ false
-          → r ≡ no_lists_read Nothing asked → TextReadAs (reading bytes) r payments adjustments weights openings
-      unfolding with_headings
-      no_lists_wanted e answer =
-          let none : Lists = record { payments = []; adjustments = []; weights = []; openings = [] } in
-          let means : reading bytes ≡ triangle asked none = sym right_headings ∙ rw e in
-          rw answer (record {
-            fault_is = sym (ap fault_of means);
-            asked_is = λ other lists m. let same : triangle asked none ≡ triangle other lists = sym means ∙ m in cc;
-            lists_are = λ other lists m. let same : triangle asked none ≡ triangle other lists = sym means ∙ m in cc;
-            payments_within = omega arith;
-            adjustments_within = omega arith;
-            weights_within = omega arith;
-            openings_within = omega arith;
-          })
-
-      pub lists_read : {r : TextRead} {payments adjustments weights openings : List ℤ} → lists_wanted asked.years asked.cut ≡ true
-          → TextReadAs (lists_in separator (lines text) asked (nat_abs asked.years) (nat_abs asked.cut)) r payments adjustments weights openings
-          → TextReadAs (reading bytes) r payments adjustments weights openings
-      unfolding with_headings
-      lists_read e answer = rw (rw e at right_headings) at answer
+    pub lists_read : {r : Result TextRead Fault} {payments adjustments weights openings : List ℤ} → lists_wanted asked.years asked.cut ≡ true
+        → TextReadAs (lists_in separator (lines text) asked (nat_abs asked.years) (nat_abs asked.cut)) r payments adjustments weights openings
+        → TextReadAs (reading bytes) r payments adjustments weights openings
+    unfolding with_headings
+    lists_read e answer = rw (rw e at right_headings) at answer

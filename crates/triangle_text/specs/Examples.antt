@@ -1,7 +1,7 @@
 -- Worked examples: texts and what they hold, and texts with what is wrong with them and where.
 -- What is wanted comes from docs/FORMAT.md, from document 01 and from tools/reserve_output.py, which knows nothing of these definitions.
 -- The statement is proved in proofs/Examples.antt by computing it.
-use Rattle.std.specs.Prelude.{◌≡◌, Bool, true, false, cond, List, [], ◌∷◌, ◌++◌, map, ℕ, ◌-◌, eqb, ℤ, pos, set, take}
+use Rattle.std.specs.Prelude.{◌≡◌, Bool, true, false, cond, List, [], ◌∷◌, ◌++◌, map, ℕ, ◌-◌, eqb, ℤ, pos, set, take, Some, None}
 use Prim.Native.String.{String}
 use Rattle.figures.specs.Bytes.{bytes}
 use Rattle.text.specs.Bytes.{tab, line_feed, carriage_return, semicolon}
@@ -50,9 +50,7 @@ asks_from payments_cumulated adjustments_cumulated weights_given t = record {
   payments_cumulated = payments_cumulated;
   adjustments_cumulated = adjustments_cumulated;
   weights_given = weights_given;
-  one_cell = false;
-  accident_year = pos 0;
-  development_year = pos 0;
+  cell = None;
 }
 
 abbrev pub asks : Triangle → Reading
@@ -72,9 +70,7 @@ one_cell i k asked = record {
   payments_cumulated = asked.payments_cumulated;
   adjustments_cumulated = asked.adjustments_cumulated;
   weights_given = asked.weights_given;
-  one_cell = true;
-  accident_year = pos i;
-  development_year = pos k;
+  cell = Some record { accident_year = pos i; development_year = pos k };
 }
 
 abbrev pub asks_cell : ℕ → ℕ → Triangle → Reading

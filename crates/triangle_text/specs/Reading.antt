@@ -1,23 +1,21 @@
 -- What a whole text holds: the triangle that a call lends and what is asked of it, or the first fault.
-use Rattle.std.specs.Prelude.{◌≡◌, Bool, ◌&&◌, cond, List, [], ℕ, ◌-◌, ◌≤◌, ltb, eqb, ℤ, pos, nat_abs, length, get_or, take, drop}
+use Rattle.std.specs.Prelude.{◌≡◌, Bool, ◌&&◌, cond, List, [], ℕ, ◌-◌, ◌≤◌, ltb, eqb, ℤ, pos, nat_abs, length, get_or, take, drop, Option, Some, None, Result, Ok, Err}
 use Rattle.text.specs.Lines.{lines}
 use Rattle.line_parts.specs.Cells.{separator_of}
 use Rattle.headings.specs.Places.{line_number, lines_under, rows_in, number_after, is_cumulated}
-use Rattle.heading_faults.specs.Faults.{heading_fault}
+use Rattle.heading_faults.specs.Faults.{FirstFault, heading_fault}
 use Rattle.line_kinds.specs.declared.kinds.LineKind.{LineKind}
 use Rattle.line_kinds.specs.declared.kinds.LineKind.TheVariants.{Payments, Adjustments, Weights, Openings, Cut, Cell}
-use Rattle.heading_faults.specs.declared.FirstFault.{FirstFault}
-use Rattle.heading_faults.specs.declared.FirstFault as heading
 use Rattle.method.specs.Limits.{most_accident_years}
 use Rattle.method.specs.Triangle.{amounts_length, weights_length}
 use Rattle.method.specs.Tests.{years_in_range, cut_in_range}
-use Rattle.blocks.specs.Blocks.{Block, numbers, faulty, block_from, default_weights}
+use Rattle.blocks.specs.Blocks.{Block, faulty, block_from, default_weights}
 use Rattle.blocks.specs.declared.faults.Expected.{Expected}
 use Rattle.blocks.specs.declared.faults.Expected.TheVariants.{InHeading, Incremental}
 use Rattle.blocks.specs.declared.faults.Fault.{Fault}
-use Rattle.blocks.specs.declared.faults.Fault.TheVariants.{Nothing, At}
 use Rattle.blocks.specs.declared.lines.Shape.{Shape}
 use Rattle.blocks.specs.declared.lines.Shape as shape
+use Rattle.triangle_text.specs.declared.reading.CellAsked.{CellAsked}
 use Rattle.triangle_text.specs.declared.reading.Asked.{Asked}
 use Rattle.triangle_text.specs.declared.reading.TextRead.{TextRead}
 
@@ -34,8 +32,8 @@ pub data Reading : Type 0 where
 
 -- the numbers of a block, or its fault
 abbrev pub then_read : Block → (List ℤ → Reading) → Reading
-then_read (numbers list) others = others list
-then_read (faulty line cell expected) others = malformed line cell expected
+then_read (Ok list) others = others list
+then_read (Err fault) others = malformed fault.line fault.cell fault.expected
 
 unfoldable pub lists_wanted : ℤ → ℤ → Bool
 lists_wanted years cut = years_in_range years && cut_in_range years cut
@@ -52,7 +50,7 @@ module _ (separator : ℕ) (all : List (List ℕ)) where
   triangle_under heading rows Y room =
       cond (is_cumulated separator heading all && ltb 1 Y)
       (faulty (line_number separator heading all) 0 Incremental)
-      (block_under heading (shape.TheVariants.Triangle rows Y (is_cumulated separator heading all)) room)
+      (block_under heading (shape.TheVariants.Triangle record { n = rows; cut = Y; cumulated = is_cumulated separator heading all }) room)
 
   -- whether the text has a heading, by its line's number
   abbrev pub is_given : ℕ → Bool
@@ -61,12 +59,19 @@ module _ (separator : ℕ) (all : List (List ℕ)) where
   -- weights of so many rows, filled in where the text has none
   unfoldable pub weights_under : ℕ → ℕ → ℕ → Block
   weights_under rows Y room =
-      cond (is_given (line_number separator Weights all)) (triangle_under Weights rows Y room) (numbers (default_weights rows Y))
+      cond (is_given (line_number separator Weights all)) (triangle_under Weights rows Y room) (Ok (default_weights rows Y))
 
   abbrev pub openings_under : ℕ → Block
   openings_under room = block_under Openings shape.TheVariants.Openings room
 
   -- ---- The whole text
+
+  -- the cell that is asked for alone, where one is
+  unfoldable pub cell_in : Option CellAsked
+  cell_in =
+      cond (is_given (line_number separator Cell all))
+      (Some record { accident_year = number_after separator Cell 1 (pos 0) all; development_year = number_after separator Cell 2 (pos 0) all })
+      None
 
   -- What the headings say. The number of accident years is that of the rows of payments.
   unfoldable pub asked_in : Asked
@@ -76,9 +81,7 @@ module _ (separator : ℕ) (all : List (List ℕ)) where
     payments_cumulated = is_cumulated separator Payments all;
     adjustments_cumulated = is_cumulated separator Adjustments all;
     weights_given = is_given (line_number separator Weights all);
-    one_cell = is_given (line_number separator Cell all);
-    accident_year = number_after separator Cell 1 (pos 0) all;
-    development_year = number_after separator Cell 2 (pos 0) all;
+    cell = cell_in;
   }
 
   -- The four lists, for n years and the cut Y, each with room for that of the most years.
@@ -99,8 +102,8 @@ module _ (separator : ℕ) (all : List (List ℕ)) where
       (triangle asked record { payments = []; adjustments = []; weights = []; openings = [] })
 
   abbrev pub unless_fault : FirstFault → Reading → Reading
-  unless_fault heading.TheVariants.Nothing read = read
-  unless_fault (heading.TheVariants.At line fault) read = malformed line 0 (InHeading fault)
+  unless_fault (Ok right) read = read
+  unless_fault (Err misplaced) read = malformed misplaced.line 0 (InHeading misplaced.expected)
 
 -- by the text's separator and its lines
 unfoldable pub reading_of : ℕ → List (List ℕ) → Reading
@@ -115,36 +118,34 @@ reading bytes = reading_of (separator_of (without_mark bytes)) (lines (without_m
 
 -- ---- What is answered
 
-abbrev pub of_heading : FirstFault → Fault
-of_heading heading.TheVariants.Nothing = Nothing
-of_heading (heading.TheVariants.At line fault) = At line 0 (InHeading fault)
+-- what is asked and how many numbers each list has, or the fault
+abbrev pub counted : Reading → Result TextRead Fault
+counted (triangle asked lists) = Ok record {
+  asked = asked;
+  payments = length lists.payments;
+  adjustments = length lists.adjustments;
+  weights = length lists.weights;
+  openings = length lists.openings;
+}
+counted (malformed line cell expected) = Err record { line = line; cell = cell; expected = expected }
 
-abbrev pub first_fault : Fault → Fault → Fault
-first_fault Nothing second = second
-first_fault (At line cell expected) second = At line cell expected
-
-abbrev pub no_lists_read : Fault → Asked → TextRead
-no_lists_read fault asked = record { fault = fault; asked = asked; payments = 0; adjustments = 0; weights = 0; openings = 0 }
-
-abbrev pub fault_of : Reading → Fault
-fault_of (triangle asked lists) = Nothing
-fault_of (malformed line cell expected) = At line cell expected
-
--- The numbers that were counted, from the left of each list.
-abbrev pub lists_of : TextRead → List ℤ → List ℤ → List ℤ → List ℤ → Lists
-lists_of r payments adjustments weights openings = record {
-  payments = take r.payments payments;
-  adjustments = take r.adjustments adjustments;
-  weights = take r.weights weights;
-  openings = take r.openings openings;
+-- as many numbers as some lists have, from the left of others
+abbrev pub as_many : Lists → List ℤ → List ℤ → List ℤ → List ℤ → Lists
+as_many lists payments adjustments weights openings = record {
+  payments = take (length lists.payments) payments;
+  adjustments = take (length lists.adjustments) adjustments;
+  weights = take (length lists.weights) weights;
+  openings = take (length lists.openings) openings;
 }
 
--- The fault of a text, or what it asks and its lists. After a fault what is asked, the counts and the lists are left open, but for their bounds.
-pub record TextReadAs (meaning : Reading) (r : TextRead) (payments adjustments weights openings : List ℤ) : Type 0 where
-  pub fault_is : r.fault ≡ fault_of meaning
-  pub asked_is : (asked : Asked) (lists : Lists) → meaning ≡ triangle asked lists → r.asked ≡ asked
-  pub lists_are : (asked : Asked) (lists : Lists) → meaning ≡ triangle asked lists → lists_of r payments adjustments weights openings ≡ lists
-  pub payments_within : r.payments ≤ length payments
-  pub adjustments_within : r.adjustments ≤ length adjustments
-  pub weights_within : r.weights ≤ length weights
-  pub openings_within : r.openings ≤ length openings
+-- What a text asks and how many numbers it has, and these from the left of each list; or its fault, after which the lists are left open.
+pub record TextReadAs (meaning : Reading) (r : Result TextRead Fault) (payments adjustments weights openings : List ℤ) : Type 0 where
+  pub read_is : r ≡ counted meaning
+  pub lists_are : (asked : Asked) (lists : Lists) → meaning ≡ triangle asked lists → as_many lists payments adjustments weights openings ≡ lists
+
+-- No list is read beyond its end.
+pub record Within (read : TextRead) (payments adjustments weights openings : List ℤ) : Type 0 where
+  pub payments_within : read.payments ≤ length payments
+  pub adjustments_within : read.adjustments ≤ length adjustments
+  pub weights_within : read.weights ≤ length weights
+  pub openings_within : read.openings ≤ length openings

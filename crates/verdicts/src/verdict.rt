@@ -3,43 +3,110 @@ ghost use Rattle.std.specs.Prelude.{◌≡◌, ◌≤◌};
 ghost use Rattle.method.specs.Limits.{most_accident_years};
 ghost use Rattle.method.specs.Verdicts.{at, nowhere};
 ghost use Rattle.method.specs.Verdicts as meaning;
-ghost use Rattle.verdicts.specs.Verdicts.{verdict_of};
+ghost use Rattle.verdicts.specs.Verdicts.{number_of, refused_by, verdict_of};
 
 // An accident year and a development year; 0 where there is none.
-#[derive(Clone, Copy)]
+#[derive(Clone, Copy, PartialEq, Eq)]
 pub struct Place {
     pub accident_year: i64,
     pub development_year: i64,
 }
 
-// Accepted, or refused by a question, of this number, at a place.
-#[derive(Clone, Copy)]
-pub enum Verdict {
-    Accepted,
-    Refused(u8, Place),
+// The questions of document 01, and from 11 on of document 02, by their numbers.
+#[derive(Clone, Copy, PartialEq, Eq)]
+pub enum Question {
+    // 1
+    Years,
+    // 2
+    Cut,
+    // 3
+    Lengths,
+    // 4
+    WeightInRange,
+    // 5
+    AmountRight,
+    // 6
+    OutstandingInRange,
+    // 7
+    WeightAllowed,
+    // 8
+    Exposure,
+    // 9
+    ProjectedFigure,
+    // 10
+    YearsAsked,
+    // 11
+    KindKnown,
+    // 12
+    NumberWhole,
+    // 13
+    BlankWhereMissing,
 }
 
-// A question's refusal at a cell.
-pub fn refusal_at(question: u8, i: usize, k: usize) -> Verdict
+impl Question {
+    // The number that a host is told.
+    pub fn number(self) -> u8
+        ensures { result ≡ number_of self }
+    {
+        match self {
+            Question::Years => 1,
+            Question::Cut => 2,
+            Question::Lengths => 3,
+            Question::WeightInRange => 4,
+            Question::AmountRight => 5,
+            Question::OutstandingInRange => 6,
+            Question::WeightAllowed => 7,
+            Question::Exposure => 8,
+            Question::ProjectedFigure => 9,
+            Question::YearsAsked => 10,
+            Question::KindKnown => 11,
+            Question::NumberWhole => 12,
+            Question::BlankWhereMissing => 13,
+        }
+    }
+}
+
+// The question that refuses what a call lends, and the place of its first no.
+#[derive(Clone, Copy, PartialEq, Eq)]
+pub struct Refusal {
+    pub question: Question,
+    pub place: Place,
+}
+
+// Accepted, or refused by the first question whose answer is no.
+pub type Verdict = Result<(), Refusal>;
+
+// A question's refusal at a cell. Here and wherever a cell is asked, i and k stand by themselves with their bounds:
+// a struct of them would be made and proved anew at every turn of a walk.
+pub fn refusal_at(question: Question, i: usize, k: usize) -> Refusal
     requires { (i ≤ most_accident_years) × (k ≤ most_accident_years) }
-    ensures { verdict_of result ≡ meaning.refused question (at i k) }
+    ensures { refused_by result ≡ meaning.refused (number_of question) (at i k) }
 {
-    Verdict::Refused(
+    Refusal {
         question,
-        Place {
+        place: Place {
             accident_year: i as i64,
             development_year: k as i64,
         },
-    )
+    }
+}
+
+// The verdict of a question that is asked of cell (i, k).
+#[tactic(auto, unfolding(method::specs::Verdicts::ask))]
+pub fn asked_at(answer: bool, question: Question, i: usize, k: usize) -> Verdict
+    requires { (i ≤ most_accident_years) × (k ≤ most_accident_years) }
+    ensures { verdict_of result ≡ meaning.ask answer (number_of question) (at i k) }
+{
+    if answer {
+        Ok(())
+    } else {
+        Err(refusal_at(question, i, k))
+    }
 }
 
 // The verdict of a question that is put to the input as a whole: a refusal has no place.
-pub fn asked(answer: bool, question: u8) -> Verdict
-    ensures { verdict_of result ≡ meaning.ask answer question nowhere }
+pub fn asked(answer: bool, question: Question) -> Verdict
+    ensures { verdict_of result ≡ meaning.ask answer (number_of question) nowhere }
 {
-    if answer {
-        Verdict::Accepted
-    } else {
-        refusal_at(question, 0, 0)
-    }
+    asked_at(answer, question, 0, 0)
 }

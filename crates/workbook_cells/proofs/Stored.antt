@@ -9,55 +9,31 @@ use lib.Dec.{leb, lit<}
 use lib.IntN.{ℤ, pos, ◌+ℤ◌, nat_abs}
 use lib.Ieee.{Float, nan}
 use lib.ListN.{get_or}
-use Rattle.floats.specs.declared.Whole as declared_whole
-use Rattle.floats.specs.declared.Whole.TheVariants as told_whole
+use Rattle.std.specs.Prelude.{is_some, unwrap_or}
 use Rattle.floats.specs.WholeNumbers.{WholeNumber, the, none, whole_number, is_whole}
-use Rattle.floats.specs.Reading.{most_exact, told}
+use Rattle.floats.specs.Reading.{most_exact}
 use Rattle.method.specs.Limits.{greatest_amount}
 use Rattle.method.specs.Tests.{amount_right}
 use Rattle.method.proofs.QuestionFacts.{amount_right_true}
 use Rattle.workbook.specs.Cells.{WorkbookCell, blank, number, workbook_cell, amount, whole_or_blank}
-use Rattle.workbook_cells.specs.declared.Amount.{Amount}
-use Rattle.workbook_cells.specs.declared.Amount.TheVariants.{Whole, NotWhole}
 use Rattle.workbook_cells.specs.Conversion.{stored, number_told, amount_told}
 
--- ---- By the cases of the code
-
-abbrev pub amount_by_case : declared_whole.Whole → Amount
-amount_by_case (told_whole.Number z) = Whole z
-amount_by_case told_whole.Larger = Whole (greatest_amount +ℤ pos 1)
-amount_by_case told_whole.NotWhole = NotWhole
-
-pub number_told_by_case : (w : WholeNumber) → amount_by_case (told w) ≡ number_told w
-number_told_by_case (the z) = go (leb (nat_abs z) most_exact)
-  where
-    go : (b : Bool) → amount_by_case (cond b (told_whole.Number z) told_whole.Larger) ≡ Whole (cond b z (greatest_amount +ℤ pos 1))
-    go true = refl
-    go false = refl
-number_told_by_case none = refl
+-- ---- What is told of a cell
 
 -- the amount told, 0 where there is none, and whether there is one
-abbrev pub value : Amount → ℤ
-value (Whole z) = z
-value NotWhole = pos 0
-
-abbrev pub has_value : Amount → Bool
-has_value (Whole z) = true
-has_value NotWhole = false
-
-pub value_told : (c : WorkbookCell) → value (amount_told c) ≡ stored (amount c)
+pub value_told : (c : WorkbookCell) → unwrap_or (amount_told c) (pos 0) ≡ stored (amount c)
 value_told blank = refl
 value_told (number x) = go (whole_number x)
   where
-    go : (w : WholeNumber) → value (number_told w) ≡ stored (elim w [ the z ↦ z | none ↦ pos 0 ])
+    go : (w : WholeNumber) → unwrap_or (number_told w) (pos 0) ≡ stored (elim w [ the z ↦ z | none ↦ pos 0 ])
     go (the z) = refl
     go none = refl
 
-pub has_value_told : (c : WorkbookCell) → has_value (amount_told c) ≡ whole_or_blank c
+pub has_value_told : (c : WorkbookCell) → is_some (amount_told c) ≡ whole_or_blank c
 has_value_told blank = refl
 has_value_told (number x) = go (whole_number x)
   where
-    go : (w : WholeNumber) → has_value (number_told w) ≡ is_whole w
+    go : (w : WholeNumber) → is_some (number_told w) ≡ is_whole w
     go (the z) = refl
     go none = refl
 

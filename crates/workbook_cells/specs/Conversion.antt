@@ -1,5 +1,5 @@
 -- A cell as the code has it, and the amounts that it stores.
-use Rattle.std.specs.Prelude.{Bool, true, ◌&&◌, cond, List, ℕ, zero, suc, leb, ℤ, pos, ◌+ℤ◌, nat_abs, Float, get_or}
+use Rattle.std.specs.Prelude.{Bool, true, ◌&&◌, cond, List, ℕ, zero, suc, leb, ℤ, pos, ◌+ℤ◌, nat_abs, Float, get_or, Option, Some, None}
 use Rattle.std.specs.Float.{nan}
 use Rattle.floats.specs.WholeNumbers.{WholeNumber, the, none, whole_number}
 use Rattle.floats.specs.Reading.{most_exact}
@@ -7,8 +7,6 @@ use Rattle.method.specs.Limits.{greatest_amount}
 use Rattle.workbook.specs.Cells.{WorkbookCell, blank, number, workbook_cell, whole_or_blank}
 use Rattle.workbook_cells.specs.declared.Cell.{Cell}
 use Rattle.workbook_cells.specs.declared.Cell.TheVariants.{Blank, Number}
-use Rattle.workbook_cells.specs.declared.Amount.{Amount}
-use Rattle.workbook_cells.specs.declared.Amount.TheVariants.{Whole, NotWhole}
 
 abbrev pub cell_told : Cell → WorkbookCell
 cell_told Blank = blank
@@ -19,12 +17,12 @@ cell_told (Number x) = number x
 abbrev pub stored : ℤ → ℤ
 stored z = cond (leb (nat_abs z) most_exact) z (greatest_amount +ℤ pos 1)
 
-abbrev pub number_told : WholeNumber → Amount
-number_told (the z) = Whole (stored z)
-number_told none = NotWhole
+abbrev pub number_told : WholeNumber → Option ℤ
+number_told (the z) = Some (stored z)
+number_told none = None
 
-abbrev pub amount_told : WorkbookCell → Amount
-amount_told blank = Whole (pos 0)
+abbrev pub amount_told : WorkbookCell → Option ℤ
+amount_told blank = Some (pos 0)
 amount_told (number x) = number_told (whole_number x)
 
 -- questions 11 and 12 of one cell, and of the first so many cells of a list

@@ -2,67 +2,40 @@
 #![tactic(auto)]
 
 ghost use Rattle.std.specs.Prelude.{◌≡◌, map, length};
-ghost use Rattle.workbook.specs.Cells.{workbook_cell, amount};
+ghost use Rattle.workbook.specs.Cells.{workbook_cell};
 ghost use Rattle.workbook.specs.Workbook.{amounts_of};
-ghost use Rattle.workbook_cells.specs.Conversion.{cell_told, amount_told, stored, convertible, all_convertible};
+ghost use Rattle.workbook_cells.specs.Conversion.{cell_told, amount_told, stored, all_convertible};
 
-use floats::{Whole, whole_number};
+pub mod lent_workbook;
+
+use floats::{NotExact, whole_number};
+use lent_workbook::WorkbookCells;
 use verdicts::limits::GREATEST_AMOUNT;
 
-// A cell is blank or carries its number.
+// A cell is blank or carries its number. Kept as no Option: document 01 names this enum for it.
 #[derive(Clone, Copy)]
 pub enum Cell {
     Blank,
     Number(f64),
 }
 
-// The amount that a cell stands for, or that it has none.
-#[derive(Clone, Copy)]
-pub enum Amount {
-    Whole(i64),
-    NotWhole,
-}
-
 // Converts the cells of a list, and says whether all could be: whether every kind byte is 0 or 1 and every number whole.
-pub fn convert(kinds: &[u8], numbers: &[f64], amounts: &mut [i64]) -> bool
-    requires { (length kinds.now ≡ length numbers.now) × (length amounts.old ≡ length numbers.now) }
-    ensures value { result ≡ all_convertible (length numbers.now) kinds.now numbers.now }
-    ensures amounts_after { amounts.new ≡ map stored (amounts_of kinds.now numbers.now) }
+// A number that is not whole has the amount 0, which no answer rests on.
+pub fn convert(cells: WorkbookCells<'_>, amounts: &mut [i64]) -> bool
+    requires { (length cells.kinds.now ≡ length cells.numbers.now) × (length amounts.old ≡ length cells.numbers.now) }
+    ensures value { result ≡ all_convertible (length cells.entry.numbers.now) cells.entry.kinds.now cells.entry.numbers.now }
+    ensures amounts_after { amounts.new ≡ map stored (amounts_of cells.entry.kinds.now cells.entry.numbers.now) }
 {
-    let count = amounts.len();
+    let WorkbookCells { kinds, numbers } = cells;
     let mut all = true;
-    let mut j = 0;
-    while j < count {
-        let converted = converted_cell(kinds[j], numbers[j]);
-        let amount = converted.amount;
-        amounts[j] = amount;
-        all = all & converted.convertible;
-        j += 1;
+    // Kinds and numbers by places, and no zip with the amounts: after that nothing is known of what they hold.
+    for (j, amount) in amounts.iter_mut().enumerate() {
+        let kind = kinds[j];
+        let whole = amount_of(cell_of(kind, numbers[j]));
+        *amount = whole.unwrap_or(0);
+        all &= (kind <= 1) & whole.is_some();
     }
     all
-}
-
-#[derive(Clone, Copy)]
-struct ConvertedCell {
-    amount: i64,
-    convertible: bool,
-}
-
-// A cell that cannot be converted has the amount 0, which no answer rests on.
-fn converted_cell(kind: u8, number: f64) -> ConvertedCell
-    ensures { (result.amount ≡ stored (amount (workbook_cell kind number))) × (result.convertible ≡ convertible kind number) }
-{
-    let converted = amount_of(cell_of(kind, number));
-    match converted {
-        Amount::Whole(amount) => ConvertedCell {
-            amount: amount,
-            convertible: kind <= 1,
-        },
-        Amount::NotWhole => ConvertedCell {
-            amount: 0,
-            convertible: false,
-        },
-    }
 }
 
 // The cell of a kind byte, 0 for blank, and of the float beside it.
@@ -70,24 +43,23 @@ pub fn cell_of(kind: u8, number: f64) -> Cell
     ensures { cell_told result ≡ workbook_cell kind number }
 {
     if kind == 0 {
-        return Cell::Blank;
+        Cell::Blank
+    } else {
+        Cell::Number(number)
     }
-    Cell::Number(number)
 }
 
+// The amount that a cell stands for, 0 where it is blank; `None` where its number is not whole.
 // A number beyond 2^53 is left to question 5, which refuses what stands for it here.
-pub fn amount_of(cell: Cell) -> Amount
+pub fn amount_of(cell: Cell) -> Option<i64>
     ensures { result ≡ amount_told (cell_told cell) }
 {
-    match cell {
-        Cell::Blank => Amount::Whole(0),
-        Cell::Number(number) => {
-            let whole = whole_number(number);
-            match whole {
-                Whole::Number(amount) => Amount::Whole(amount),
-                Whole::Larger => Amount::Whole(GREATEST_AMOUNT + 1),
-                Whole::NotWhole => Amount::NotWhole,
-            }
-        }
+    let Cell::Number(number) = cell else {
+        return Some(0);
+    };
+    match whole_number(number) {
+        Ok(amount) => Some(amount),
+        Err(NotExact::Larger) => Some(GREATEST_AMOUNT + 1),
+        Err(NotExact::NotWhole) => None,
     }
 }

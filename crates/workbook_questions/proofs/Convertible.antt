@@ -9,14 +9,14 @@ use lib.Dec.{leb}
 use lib.Ieee.{Float, nan}
 use lib.ListN.{length, get_or}
 use Rattle.method.specs.Triangle.{cells_before}
-use Rattle.method.specs.Verdicts.{accepted}
+use Rattle.method.specs.Verdicts.{accepted, ◌then◌}
 use Rattle.method.proofs.Tests.{and-true}
 use Rattle.method.proofs.FirstRefusal.{went_on, each_cell_passes}
 use Rattle.method.proofs.Positions.{cell_at, cell_inside}
 use Rattle.workbook.specs.Workbook.{CellList, kind_at, number_at}
 use Rattle.workbook.specs.Questions.{kinds_known, numbers_whole}
 use Rattle.workbook_cells.specs.Conversion.{convertible, all_convertible}
-use Rattle.workbook_questions.specs.CellQuestions.{CellsRight, list_convertible, both_convertible, questions_11_and_12}
+use Rattle.workbook_questions.specs.CellQuestions.{CellsRight, list_convertible, both_convertible}
 
 each_convertible : (m : ℕ) (kinds : List ℕ) (numbers : List Float) → all_convertible m kinds numbers ≡ true
     → (j : ℕ) → j < m → convertible (get_or kinds j 0) (get_or numbers j nan) ≡ true
@@ -48,8 +48,10 @@ module _ (n : ℕ) (c : CellList) (right : CellsRight n c) (e : list_convertible
   unfolding numbers_whole
   numbers_accepted = each_cell_passes n 12 _ (λ i k p q h. (and-true (leb (kind_at n c i k) 1) _ (cell_convertible i k p q h)).1)
 
-pub convertible_accepted : (n : ℕ) (p a : CellList) → CellsRight n p → CellsRight n a → both_convertible p a ≡ true → accepted ≡ questions_11_and_12 n p a
-convertible_accepted n p a paid adjusted e =
+-- of both lists, each with its own n
+pub convertible_accepted : (n m : ℕ) (p a : CellList) → CellsRight n p → CellsRight m a → both_convertible p a ≡ true
+    → accepted ≡ ((kinds_known n p then kinds_known m a) then numbers_whole n p then numbers_whole m a)
+convertible_accepted n m p a paid adjusted e =
     let (f, g) = and-true (list_convertible p) (list_convertible a) e in
-    went_on (sym (went_on (kinds_accepted n p paid f) (sym (kinds_accepted n a adjusted g))))
-    (went_on (numbers_accepted n p paid f) (sym (numbers_accepted n a adjusted g)))
+    went_on (sym (went_on (kinds_accepted n p paid f) (sym (kinds_accepted m a adjusted g))))
+    (went_on (numbers_accepted n p paid f) (sym (numbers_accepted m a adjusted g)))

@@ -1,208 +1,107 @@
 // Questions 11, 12 and 13, each of the cells of a workbook in list order, payments first.
 #![tactic(auto)]
 
-ghost use Rattle.std.specs.Prelude.{◌≡◌, ◌<◌, ◌≤◌, eqb};
+ghost use Rattle.std.specs.Prelude.{◌≡◌, ◌≤◌, eqb};
 ghost use Rattle.std.specs.Bool.{beq};
 ghost use Rattle.method.specs.Limits.{most_accident_years};
-ghost use Rattle.method.specs.Triangle.{cells_before, missing};
+ghost use Rattle.method.specs.Triangle.{missing};
 ghost use Rattle.method.specs.Verdicts.{◌then◌};
 ghost use Rattle.verdicts.specs.Verdicts.{verdict_of};
 ghost use Rattle.workbook.specs.Cells.{workbook_cell, whole_or_blank};
-ghost use Rattle.workbook_questions.specs.CellQuestions.{cells_of, passes, number_of, row_of_cells, all_cells, CellsRight, both_convertible, questions_11_and_12, questions_11_to_13};
+ghost use Rattle.workbook.specs.Questions.{kinds_known, numbers_whole, blanks_missing};
+ghost use Rattle.workbook_cells.specs.Lent.{cells_of};
+ghost use Rattle.workbook_questions.specs.CellQuestions.{CellsRight, both_convertible, questions_11_to_13};
 
-use verdicts::verdict::{Verdict, refusal_at};
-use workbook_cells::{Amount, amount_of, cell_of};
-
-// What is asked of a cell.
-#[derive(Clone, Copy)]
-pub enum CellQuestion {
-    // question 11
-    KindKnown,
-    // question 12
-    NumberWhole,
-    // question 13
-    BlankWhereMissing,
-}
+use cells::walk::first_refusal;
+use verdicts::verdict::{Question, Verdict};
+use workbook_cells::lent_workbook::WorkbookCells;
+use workbook_cells::{amount_of, cell_of};
 
 // The first refusal of questions 11 to 13, if there is one.
 // `convertible` says whether every cell could be converted, so that 11 and 12 need not be asked: they are, to find number and place, only where one could not.
-pub fn questions_11_to_13<'a>(
+pub fn questions_11_to_13(
     n: usize,
     cut: usize,
     convertible: bool,
-    payment_kinds: &'a [u8],
-    payments: &'a [f64],
-    adjustment_kinds: &'a [u8],
-    adjustments: &'a [f64],
+    payments: WorkbookCells<'_>,
+    adjustments: WorkbookCells<'_>,
 ) -> Verdict
-    requires cells_right { CellsRight n (cells_of payment_kinds.now payments.now) × CellsRight n (cells_of adjustment_kinds.now adjustments.now) }
-    requires convertible_value { convertible ≡ both_convertible (cells_of payment_kinds.now payments.now) (cells_of adjustment_kinds.now adjustments.now) }
-    ensures { verdict_of result ≡ questions_11_to_13 n cut
-        (cells_of payment_kinds.now payments.now) (cells_of adjustment_kinds.now adjustments.now) }
+    requires cells_right { CellsRight n (cells_of payments) × CellsRight n (cells_of adjustments) }
+    requires convertible_value { convertible ≡ both_convertible (cells_of payments) (cells_of adjustments) }
+    ensures { verdict_of result ≡ questions_11_to_13 n cut (cells_of payments.entry) (cells_of adjustments.entry) }
 {
-    let verdict = questions_11_and_12(
+    let payments = SeenCells { n, cells: payments };
+    let adjustments = SeenCells {
         n,
-        convertible,
-        payment_kinds,
-        payments,
-        adjustment_kinds,
-        adjustments,
-    );
-    let Verdict::Accepted = verdict else {
-        return verdict;
+        cells: adjustments,
     };
-    of_both_lists(
-        CellQuestion::BlankWhereMissing,
-        cut,
-        n,
-        payment_kinds,
-        payments,
-        adjustment_kinds,
-        adjustments,
-    )
+    questions_11_and_12(convertible, payments, adjustments)?;
+    payments.blanks_missing(cut)?;
+    adjustments.blanks_missing(cut)
 }
 
-fn questions_11_and_12<'a>(
-    n: usize,
+fn questions_11_and_12(
     convertible: bool,
-    payment_kinds: &'a [u8],
-    payments: &'a [f64],
-    adjustment_kinds: &'a [u8],
-    adjustments: &'a [f64],
+    payments: SeenCells<'_>,
+    adjustments: SeenCells<'_>,
 ) -> Verdict
-    requires cells_right { CellsRight n (cells_of payment_kinds.now payments.now) × CellsRight n (cells_of adjustment_kinds.now adjustments.now) }
-    requires convertible_value { convertible ≡ both_convertible (cells_of payment_kinds.now payments.now) (cells_of adjustment_kinds.now adjustments.now) }
-    ensures { verdict_of result ≡ questions_11_and_12 n
-        (cells_of payment_kinds.now payments.now) (cells_of adjustment_kinds.now adjustments.now) }
+    requires { convertible ≡ both_convertible (cells_of payments.cells) (cells_of adjustments.cells) }
+    ensures { verdict_of result
+        ≡ ((kinds_known payments.entry.n (cells_of payments.entry.cells) then kinds_known adjustments.entry.n (cells_of adjustments.entry.cells))
+        then numbers_whole payments.entry.n (cells_of payments.entry.cells)
+        then numbers_whole adjustments.entry.n (cells_of adjustments.entry.cells)) }
 {
     if convertible {
-        return Verdict::Accepted;
+        return Ok(());
     }
-    // The cut makes no difference.
-    let eleventh = of_both_lists(
-        CellQuestion::KindKnown,
-        1,
-        n,
-        payment_kinds,
-        payments,
-        adjustment_kinds,
-        adjustments,
-    );
-    let Verdict::Accepted = eleventh else {
-        return eleventh;
-    };
-    of_both_lists(
-        CellQuestion::NumberWhole,
-        1,
-        n,
-        payment_kinds,
-        payments,
-        adjustment_kinds,
-        adjustments,
-    )
+    payments.kinds_known()?;
+    adjustments.kinds_known()?;
+    payments.numbers_whole()?;
+    adjustments.numbers_whole()
 }
 
-// The first refusal of a question among the payments, then among the adjustments.
-fn of_both_lists<'a>(
-    question: CellQuestion,
-    cut: usize,
+// The cells of a list as questions 1 to 3 leave it: a kind byte and a float for every seen cell of n accident years.
+#[derive(Clone, Copy)]
+struct SeenCells<'a> {
     n: usize,
-    payment_kinds: &'a [u8],
-    payments: &'a [f64],
-    adjustment_kinds: &'a [u8],
-    adjustments: &'a [f64],
-) -> Verdict
-    requires { CellsRight n (cells_of payment_kinds.now payments.now) × CellsRight n (cells_of adjustment_kinds.now adjustments.now) }
-    ensures { verdict_of result
-        ≡ (all_cells question cut n (cells_of payment_kinds.now payments.now)
-        then all_cells question cut n (cells_of adjustment_kinds.now adjustments.now)) }
-{
-    let paid = first_refusal(question, cut, n, payment_kinds, payments);
-    let Verdict::Accepted = paid else {
-        return paid;
-    };
-    first_refusal(question, cut, n, adjustment_kinds, adjustments)
+    cells: WorkbookCells<'a>,
+    ghost right: { CellsRight n (cells_of cells) },
 }
 
-// The first refusal in a list whose rows have n, n − 1, … cells, if there is one.
-fn first_refusal<'a>(
-    question: CellQuestion,
-    cut: usize,
-    n: usize,
-    kinds: &'a [u8],
-    numbers: &'a [f64],
-) -> Verdict
-    requires { CellsRight n (cells_of kinds.now numbers.now) }
-    ensures { verdict_of result ≡ all_cells question cut n (cells_of kinds.now numbers.now) }
-{
-    let mut start = 0;
-    let mut r = 0;
-    while r < n {
-        let verdict = first_refusal_in_row(question, cut, n, r, start, kinds, numbers);
-        let Verdict::Accepted = verdict else {
-            return verdict;
-        };
-        start += n - r;
-        r += 1;
+impl<'a> SeenCells<'a> {
+    // Question 11.
+    fn kinds_known(self) -> Verdict
+        ensures { verdict_of result ≡ kinds_known self.entry.n (cells_of self.entry.cells) }
+    {
+        let kinds = self.cells.kinds;
+        first_refusal(Question::KindKnown, self.n, |at, _, _| kinds[at] <= 1)
     }
-    Verdict::Accepted
-}
 
-// The first refusal in row r + 1, which begins at `start`.
-fn first_refusal_in_row<'a>(
-    question: CellQuestion,
-    cut: usize,
-    n: usize,
-    r: usize,
-    start: usize,
-    kinds: &'a [u8],
-    numbers: &'a [f64],
-) -> Verdict
-    requires { (r < n) × (start ≡ cells_before n r) × CellsRight n (cells_of kinds.now numbers.now) }
-    ensures { verdict_of result ≡ row_of_cells question cut n (cells_of kinds.now numbers.now) r }
-{
-    let count = n - r;
-    let mut j = 0;
-    while j < count {
-        let at = start + j;
-        if !cell_passes(question, cut, r + 1, j + 1, kinds[at], numbers[at]) {
-            return refusal_at(number(question), r + 1, j + 1);
-        }
-        j += 1;
+    // Question 12.
+    fn numbers_whole(self) -> Verdict
+        ensures { verdict_of result ≡ numbers_whole self.entry.n (cells_of self.entry.cells) }
+    {
+        let WorkbookCells { kinds, numbers } = self.cells;
+        first_refusal(Question::NumberWhole, self.n, |at, _, _| {
+            whole_or_blank(kinds[at], numbers[at])
+        })
     }
-    Verdict::Accepted
-}
 
-fn number(question: CellQuestion) -> u8
-    ensures { result ≡ number_of question }
-{
-    match question {
-        CellQuestion::KindKnown => 11,
-        CellQuestion::NumberWhole => 12,
-        CellQuestion::BlankWhereMissing => 13,
+    // Question 13.
+    fn blanks_missing(self, cut: usize) -> Verdict
+        ensures { verdict_of result ≡ blanks_missing self.entry.n cut (cells_of self.entry.cells) }
+    {
+        let kinds = self.cells.kinds;
+        first_refusal(Question::BlankWhereMissing, self.n, |at, i, k| {
+            blank_where_missing(cut, i, k, kinds[at])
+        })
     }
 }
 
-// Whether cell (i, k), with this kind byte and float, passes.
-fn cell_passes(question: CellQuestion, cut: usize, i: usize, k: usize, kind: u8, float: f64) -> bool
-    requires { (i ≤ most_accident_years) × (k ≤ most_accident_years) }
-    ensures { result ≡ passes question cut i k kind float }
+fn whole_or_blank(kind: u8, number: f64) -> bool
+    ensures { result ≡ whole_or_blank (workbook_cell kind number) }
 {
-    match question {
-        CellQuestion::KindKnown => kind <= 1,
-        CellQuestion::NumberWhole => whole_or_blank(kind, float),
-        CellQuestion::BlankWhereMissing => blank_where_missing(cut, i, k, kind),
-    }
-}
-
-fn whole_or_blank(kind: u8, float: f64) -> bool
-    ensures { result ≡ whole_or_blank (workbook_cell kind float) }
-{
-    let amount = amount_of(cell_of(kind, float));
-    match amount {
-        Amount::Whole(_) => true,
-        Amount::NotWhole => false,
-    }
+    amount_of(cell_of(kind, number)).is_some()
 }
 
 // Whether the cell is blank if i + k is at most the cut, and not blank if it is above.
@@ -210,8 +109,5 @@ fn blank_where_missing(cut: usize, i: usize, k: usize, kind: u8) -> bool
     requires { (i ≤ most_accident_years) × (k ≤ most_accident_years) }
     ensures { result ≡ beq (eqb kind 0) (missing cut i k) }
 {
-    if i + k <= cut {
-        return kind == 0;
-    }
-    !(kind == 0)
+    (kind == 0) == (i + k <= cut)
 }

@@ -13,7 +13,7 @@ use Rattle.workbook.specs.Workbook.{Workbook, converted, pairs_length}
 use Rattle.workbook.specs.Questions.{n, Y, workbook_lengths_right}
 use Rattle.workbook.specs.Demand1.{WorkbookLengthsRight}
 use Rattle.workbook.proofs.CellTests.{says_workbook_lengths}
-use Rattle.list_lengths.specs.declared.AnswerLists.TheVariants.{NotGiven}
+use Rattle.std.proofs.Common.{None}
 use Rattle.list_lengths.specs.declared.ListLengths.{ListLengths}
 use Rattle.list_lengths.specs.Lengths.{list_lengths_right, questions_1_to_3}
 use Rattle.workbook_reserve.specs.declared.lengths.OtherLengths.{OtherLengths}
@@ -27,7 +27,7 @@ module _ (b : Workbook) where
     adjustments = length b.adjustments.numbers;
     weights = length b.weights;
     openings = length b.openings;
-    answers = NotGiven;
+    answers = None;
   }
 
   abbrev pub lengths_besides : ℕ → ℕ → OtherLengths

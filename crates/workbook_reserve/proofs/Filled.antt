@@ -5,6 +5,10 @@ use Prim.Native.Nat.{ℕ}
 use lib.IntN.{ℤ, pos}
 use lib.Ieee.{Float}
 use lib.ListN.{replicate, length-map}
+use Rattle.std.proofs.Common.{true, false, true≢false, Result, Ok, Err}
+use Rattle.std.specs.Prelude.{is_err}
+use Rattle.verdicts.specs.declared.verdict.Refusal.{Refusal}
+use Rattle.verdicts.specs.Verdicts.{verdict_of}
 use Rattle.floats.specs.WholeNumbers.{plus_zero}
 use Rattle.method.specs.Triangle.{Triangle, reserves_length}
 use Rattle.method.specs.Triangle.{n as size}
@@ -103,17 +107,24 @@ module _ (b : Workbook) (f p : ℕ) where
 
 -- ---- The whole answer
 
-module _ {b : Workbook} {f p : ℕ} {v : Verdict} {future : List ℤ} {list : List Float} (w : WorkbookFilled b f p v future list) where
-  pub refused_whole : {question : ℕ} {q : Place} → v ≡ refused question q → workbook_answer_of v (replicate f (pos 0)) (replicate p plus_zero) ≡ workbook_answer b f p
-  refused_whole {question} {q} r =
-      ap (λ (x : Verdict). workbook_answer_of x (replicate f (pos 0)) (replicate p plus_zero)) r
-      ∙ sym (refused_workbook_answer b f p question q (sym w.verdict_is ∙ r))
-
-  pub accepted_whole : v ≡ accepted → workbook_answer_of v future list ≡ workbook_answer b f p
-  accepted_whole a = same a (w.future_is a) (w.pairs_are a) ∙ sym (accepted_workbook_answer b f p (sym w.verdict_is ∙ a))
+module _ {b : Workbook} {f p : ℕ} (v : Result (Unit {0}) Refusal) {future : List ℤ} {list : List Float} (w : WorkbookFilled b f p (verdict_of v) future list) where
+  pub refused_whole : is_err v ≡ true → workbook_answer_of (verdict_of v) (replicate f (pos 0)) (replicate p plus_zero) ≡ workbook_answer b f p
+  refused_whole = go v w
     where
-      same : {v w : Verdict} {x y : List ℤ} {c d : List Float} → v ≡ w → x ≡ y → c ≡ d → workbook_answer_of v x c ≡ workbook_answer_of w y d
-      same p q r = cc
+      go : (v : Result (Unit {0}) Refusal) → WorkbookFilled b f p (verdict_of v) future list → is_err v ≡ true
+          → workbook_answer_of (verdict_of v) (replicate f (pos 0)) (replicate p plus_zero) ≡ workbook_answer b f p
+      go (Ok x) w e = absurd (true≢false (sym e))
+      go (Err x) w e = sym (refused_workbook_answer b f p _ _ (sym w.verdict_is))
+
+  pub accepted_whole : is_err v ≡ false → workbook_answer_of (verdict_of v) future list ≡ workbook_answer b f p
+  accepted_whole = go v w
+    where
+      same : {v : Verdict} {x y : List ℤ} {c d : List Float} → x ≡ y → c ≡ d → workbook_answer_of v x c ≡ workbook_answer_of v y d
+      same q r = cc
+
+      go : (v : Result (Unit {0}) Refusal) → WorkbookFilled b f p (verdict_of v) future list → is_err v ≡ false → workbook_answer_of (verdict_of v) future list ≡ workbook_answer b f p
+      go (Err x) w e = absurd (true≢false e)
+      go (Ok x) w e = same (w.future_is refl) (w.pairs_are refl) ∙ sym (accepted_workbook_answer b f p (sym w.verdict_is))
 
 -- ---- The triangle's own answer, with its reserves as pairs
 

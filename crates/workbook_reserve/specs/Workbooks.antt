@@ -1,4 +1,4 @@
--- The arguments of a call as a workbook, and what it answers.
+-- What a call with a workbook answers.
 use Rattle.std.specs.Prelude.{◌≡◌, Bool, ◌&&◌, List, ℕ, eqb, ℤ, Float}
 use Rattle.method.specs.Triangle.{Triangle, n, amounts_length, future_length, reserves_length}
 use Rattle.method.specs.RunOff.{method}
@@ -10,16 +10,6 @@ use Rattle.workbook.specs.Pairs.{pairs}
 use Rattle.workbook.specs.Questions.{workbook_lengths_right, workbook_questions}
 use Rattle.workbook.specs.Answers.{WorkbookAnswer}
 use Rattle.workbook_reserve.specs.declared.lengths.OtherLengths.{OtherLengths}
-
-abbrev pub workbook_of : ℤ → ℤ → List ℕ → List Float → List ℕ → List Float → List ℤ → List ℤ → Workbook
-workbook_of years cut payment_kinds payments adjustment_kinds adjustments weights openings = record {
-  years = years;
-  cut = cut;
-  payments = record { kinds = payment_kinds; numbers = payments };
-  adjustments = record { kinds = adjustment_kinds; numbers = adjustments };
-  weights = weights;
-  openings = openings;
-}
 
 -- what the call gives back, and what it leaves in the lists
 abbrev pub workbook_answer_of : Verdict → List ℤ → List Float → WorkbookAnswer

@@ -5,33 +5,18 @@ use Prim.Native.Nat.{ℕ, zero, suc, ◌+◌, ◌*◌, ◌/◌, ◌^◌, ◌≤�
 use native.Mathlib.Nat.{div-lt_iff_lt-mul, pow-suc}
 use native.Mathlib.Decide.{dec_lt}
 use native.Mathlib.Omega.{arith}
+use Rattle.std.proofs.lemmas.Grind.{common_steps}
 use borrow.Author.Tests.{lt-ltb, le-ltb}
 use lib.ListN.{length, length-append}
 use Rattle.written_figures.specs.declared.writing.Written.{Written}
-use Rattle.written_figures.specs.Writing.{Before, digit, three_digits, comma, first_group, grouped_in, grouped}
+use Rattle.written_figures.specs.Writing.{Before, three_digits, comma, first_group, grouped_in, grouped}
 use Rattle.written_figures.proofs.TextsBefore.{both_before}
 
 -- ---- The first group
 
-pub one_digit : (n : ℕ) → n < 10 → first_group n ≡ digit n ∷ []
+pub first_group_length : (n : ℕ) → length (first_group n) ≤ 3
 unfolding first_group
-one_digit n h = rw (lt-ltb n 10 h)
-
-pub two_digits : (n : ℕ) → 10 ≤ n → n < 100 → first_group n ≡ digit (n / 10) ∷ digit n ∷ []
-unfolding first_group
-two_digits n h k = rw (le-ltb n 10 h, lt-ltb n 100 k)
-
-pub all_three_digits : (n : ℕ) → 100 ≤ n → first_group n ≡ three_digits n
-unfolding first_group
-all_three_digits n h = rw (le-ltb n 10 (omega arith), le-ltb n 100 h)
-
-first_group_length : (n : ℕ) → length (first_group n) ≤ 3
-first_group_length n = go (dec_lt n 10) (dec_lt n 100)
-  where
-    go : Dec (n < 10) → Dec (n < 100) → length (first_group n) ≤ 3
-    go (yes h) d = rw (one_digit n h) (omega arith)
-    go (no h) (yes k) = rw (two_digits n (omega arith) k) (omega arith)
-    go (no h) (no k) = rw (all_three_digits n (omega arith)) (omega arith)
+first_group_length n = grind (arith, common_steps)
 
 -- ---- All groups
 
@@ -59,7 +44,7 @@ unfolding grouped grouped_in
 further_group n h k =
     rw (le-ltb n 1000 h) (ap (λ front. front ++ comma ∷ three_digits n) (enough_groups 5 6 (n / 1000) (omega arith) (omega arith)))
 
-grouped_in_length : (k n : ℕ) → length (grouped_in k n) ≤ 4 * k + 3
+pub grouped_in_length : (k n : ℕ) → length (grouped_in k n) ≤ 4 * k + 3
 unfolding grouped_in
 grouped_in_length zero n = first_group_length n
 grouped_in_length (suc k) n = go (dec_lt n 1000) (grouped_in_length k (n / 1000))

@@ -1,5 +1,4 @@
 -- The laws of a text that is written from the right; the worked examples.
-pub mod Sizes
 pub mod TextsBefore
 pub mod GroupedDigits
 pub mod TextLengths

@@ -1,15 +1,18 @@
 -- The texts of numbers of 64 bits are at most 32 bytes long.
 use mathlib.Core.List.{◌∷◌, ◌++◌}
-use Prim.Native.Nat.{◌/◌, ◌≤◌}
+use Prim.Native.Nat.{◌/◌, ◌^◌, ◌≤◌}
 use native.Mathlib.Omega.{arith}
-use lib.IntN.{ℤ, nat_abs}
+use lib.IntN.{ℤ, pos, negsuc, nat_abs}
 use lib.ListN.{length, length-append}
 use mir.Syntax.{w64}
 use mir.Val.{SFits}
 use Rattle.written_figures.specs.Writing.{sign, grouped, point, six_digits, whole_text, amount_text}
-use Rattle.written_figures.proofs.Sizes.{size-≤}
 use Rattle.written_figures.proofs.TextsBefore.{sign_length}
 use Rattle.written_figures.proofs.GroupedDigits.{grouped_length}
+
+size-≤ : (x : ℤ) → SFits w64 x → nat_abs x ≤ 2 ^ 63
+size-≤ (pos n) f = omega (arith, f.sfits)
+size-≤ (negsuc n) f = omega (arith, f.sfits)
 
 pub whole_text_length : (z : ℤ) → SFits w64 z → length (whole_text z) ≤ 32
 whole_text_length z f =

@@ -1,18 +1,14 @@
 -- Texts set before texts, from the right.
-use mathlib.Core.Path.{◌≡◌, refl, sym, ap, ap₂, ◌∙◌}
-use mathlib.Core.Bool.{true, false}
+use mathlib.Core.Path.{◌≡◌, sym, ap, ap₂, ◌∙◌}
 use mathlib.Core.List.{List, [], ◌∷◌, ◌++◌, append_assoc, append-nil}
 use Prim.Native.Nat.{ℕ, ◌+◌, ◌-◌, ◌≤◌, ◌<◌}
 use native.Mathlib.Numerals.{add-one}
 use native.Mathlib.Omega.{arith}
 use lib.IntN.{ℤ, pos, negsuc}
-use lib.Signed.{lt_z}
 use lib.ListN.{length, replicate, set, length-append, length-replicate, replicate-append-replicate}
-use lib.Seq.{set_at}
-use Rattle.integers.proofs.LinearFacts.{integers}
+use lib.Seq.{set_at, drop_at}
 use Rattle.written_figures.specs.declared.writing.Written.{Written}
-use Rattle.figures.specs.Reading.{minus_sign}
-use Rattle.written_figures.specs.Writing.{space, padded, written, Before, sign}
+use Rattle.written_figures.specs.Writing.{space, padded, written, figure_text, Before, sign}
 
 -- ---- One byte
 
@@ -41,9 +37,6 @@ byte_stored byte w = record { together = λ text e room. rw e (same (stored byte
     same : {a b : List ℕ} {m n : ℕ} → a ≡ b → m ≡ n → ◌≡◌ {A = Written} (record { bytes = a; width = m }) (record { bytes = b; width = n })
     same p q = ap₂ (λ bytes width. record { bytes = bytes; width = width }) p q
 
-pub no_room : (byte : ℕ) (w : Written) → 32 ≤ w.width → Before (byte ∷ []) w w
-no_room byte w full = record { together = λ text e room. absurd (omega (arith, ap (λ (v : Written). v.width) e)) }
-
 -- ---- Texts
 
 pub nothing_before : (w : Written) → Before [] w w
@@ -60,15 +53,9 @@ both_before {front} {further} {w} {v} {r} b d = record { together = λ text e ro
 pub before_nothing : {front : List ℕ} {w r : Written} → Before front w r → w ≡ written [] → length front ≤ 32 → r ≡ written front
 before_nothing {front} b e room = b.together [] e (rw append-nil room) ∙ ap written (append-nil front)
 
--- ---- The sign
-
-pub negative_sign : (z : ℤ) → lt_z z (pos 0) ≡ true → sign z ≡ minus_sign ∷ []
-negative_sign (pos n) below = absurd (omega (arith, integers))
-negative_sign (negsuc n) below = refl
-
-pub no_sign : (z : ℤ) → lt_z z (pos 0) ≡ false → sign z ≡ []
-no_sign (pos n) left = refl
-no_sign (negsuc n) left = absurd (omega (arith, integers))
+-- a text that has room is what stands at the end of its bytes
+pub text_of_written : {text : List ℕ} {w : Written} → length text ≤ 32 → w ≡ written text → figure_text w ≡ text
+text_of_written {text} {w} room is = ap figure_text is ∙ drop_at (replicate (32 - length text) space) text (32 - length text) (length-replicate (32 - length text) space)
 
 pub sign_length : (z : ℤ) → length (sign z) ≤ 1
 sign_length (pos n) = omega arith

@@ -1,5 +1,5 @@
 -- Numbers and amounts as text, byte by byte.
-use Rattle.std.specs.Prelude.{◌≡◌, cond, List, [], ◌∷◌, ◌++◌, ℕ, zero, suc, ◌+◌, ◌-◌, ◌/◌, ◌%◌, ◌≤◌, ltb, ℤ, pos, negsuc, nat_abs, length, replicate}
+use Rattle.std.specs.Prelude.{◌≡◌, cond, List, [], ◌∷◌, ◌++◌, ℕ, zero, suc, ◌+◌, ◌-◌, ◌/◌, ◌%◌, ◌≤◌, ltb, ℤ, pos, negsuc, nat_abs, length, drop, replicate}
 use Prim.Native.Char.{code}
 use Rattle.figures.specs.Reading.{zero_digit, minus_sign}
 use Rattle.written_figures.specs.declared.writing.Written.{Written}
@@ -58,6 +58,10 @@ padded text = replicate (32 - length text) space ++ text
 
 abbrev pub written : List ℕ → Written
 written text = record { bytes = padded text; width = length text }
+
+-- The text without the spaces before it.
+abbrev pub figure_text : Written → List ℕ
+figure_text w = drop (32 - w.width) w.bytes
 
 -- From what is written to the same with a text set before it, where there is room.
 pub record Before (front : List ℕ) (w r : Written) : Type 0 where

@@ -1,12 +1,8 @@
--- Both calls tell what is asked for, and the first is made for a small float.
+-- The two literals are -2^51 and 2^51.
 use Rattle.std.proofs.Common.{sym, ◌∙◌}
+use lib.Ieee.{of_bits, neg}
 use Rattle.floats.proofs.whole_number.Goals as goal
 
 pub small_whole_number-requires : goal.small_whole_number-requires
-small_whole_number-requires c = sym c.is_small.ensures ∙ c.if-is_small.true
-
-pub returns-then-is_small : goal.returns-then-is_small
-returns-then-is_small c = c.small_whole_number.ensures
-
-pub returns : goal.returns
-returns c = c.any_whole_number.ensures
+unfolding of_bits neg
+small_whole_number-requires c = sym c.is_within.ensures ∙ c.if-is_within.true

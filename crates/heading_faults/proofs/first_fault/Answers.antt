@@ -1,73 +1,43 @@
--- The lines from the one on that is read next have the first fault of all; each turn passes a line without one.
-use mathlib.Core.Path.{◌≡◌, ap, ◌∙◌}
-use Prim.Native.Nat.{◌+◌}
-use native.Mathlib.Omega.{arith}
+-- Each turn passes a line without a fault.
+use mathlib.Core.Path.{sym, ◌∙◌}
+use mathlib.Core.Logic.{inl}
+use borrow.Author.Rules.{rules}
+use Rattle.std.specs.Iterator.Adapters.{enumerate_source, enumerate_count}
 use Rattle.text.specs.Lines.{lines}
-use Rattle.line_kinds.specs.Kinds.{kind_of}
-use Rattle.heading_faults.specs.Faults.{line_check, under_after}
-use Rattle.heading_faults.proofs.LineChecks.{checks_begin, fault_here, checks_go_on, no_fault}
-use Rattle.text.proofs.LinesOfText.{LineAt, line_and_others, line_read}
+use Rattle.text.proofs.LinesOfText.{lines_within}
+use Rattle.heading_faults.proofs.LineChecks.{no_fault, fault_here, checks_go_on}
 use Rattle.heading_faults.proofs.first_fault.Goals as goal
-use Rattle.heading_faults.proofs.first_fault.Goals.{After-check_line-checked, After-first_line_length-start}
 
-read : (c : After-first_line_length-start) → let start = c.loop-start.start in
-    LineAt c.args.text.now start c.first_line-line.result.now (start + c.first_line_length-start.result)
-read c =
-    line_read c.args.text.now c.loop-start.start c.first_line-line.result.now c.first_line-line.ensures c.loop-start-test.true
-    c.first_line_length-start.result c.first_line_length-start.ensures
+pub loop-before-init : goal.loop-before-init
+loop-before-init c =
+    let within = lines_within c.args.text.bytes.now in
+    ((tt, tt, inl (search rules)), search rules, search rules)
 
-told : (c : After-check_line-checked) →
-    let separator = c.args.separator in
-    let line = c.first_line-line.result.now in
-    c.check_line-checked.result
-    ≡ line_check separator (lines c.args.text.now) (c.loop-start.number + 1) c.loop-start.under line (kind_of separator line)
-told c =
-    c.check_line-checked.ensures
-    ∙ ap (line_check c.args.separator (lines c.args.text.now) (c.loop-start.number + 1) c.loop-start.under c.first_line-line.result.now)
-    c.kind_of-kind.ensures
+pub returns-in_err-at_line : goal.returns-in_err-at_line
+returns-in_err-at_line c =
+    let here = fault_here c.args.text.separator (lines c.args.text.bytes.now) c.loop-before.under c.in-Some.before
+    (lines (enumerate_source c.loop-before.before-iterator).rest.now) (rw (sym c.in-Some.ensures.steps.1) at c.loop-before.invariant.2)
+    c.in-Some.bytes.now (lines (enumerate_source c.next.new.self).rest.now) c.in-Some.ensures.steps.0
+    c.kind_of-kind.result c.kind_of-kind.ensures c.check_line.result c.check_line.ensures _ (sym c.at_line.ensures ∙ c.in_err-at_line.was) in
+    search rules
 
-pub loop-start-init : goal.loop-start-init
-loop-start-init c = checks_begin c.args.text.now c.args.separator
+pub loop-before-preserved-then-is_heading : goal.loop-before-preserved-then-is_heading
+loop-before-preserved-then-is_heading c =
+    let goes_on = checks_go_on c.args.text.separator (lines c.args.text.bytes.now) c.loop-before.under c.in-Some.before
+    (lines (enumerate_source c.loop-before.before-iterator).rest.now) (rw (sym c.in-Some.ensures.steps.1) at c.loop-before.invariant.2)
+    c.in-Some.bytes.now (lines (enumerate_source c.next.new.self).rest.now) c.in-Some.ensures.steps.0
+    c.kind_of-kind.result c.kind_of-kind.ensures c.check_line.result c.check_line.ensures _ (sym c.at_line.ensures ∙ c.in_ok-at_line.was) in
+    (c.in-Some.ensures.goes.keeps, tt, rw (c.in-Some.ensures.steps.2, sym c.in-Some.ensures.steps.1) (rw (sym c.is_heading.ensures ∙ c.if-is_heading.true) at goes_on))
 
-pub slice_bounds-first_line-count : goal.slice_bounds-first_line-count
-slice_bounds-first_line-count c = c.loop-start.invariant.within
-
-pub slice_bounds-first_line-start : goal.slice_bounds-first_line-start
-slice_bounds-first_line-start c = c.loop-start.invariant.within
-
-pub returns-in_default : goal.returns-in_default
-returns-in_default c =
-    let text = c.args.text.now in
-    let turn = c.loop-start in
-    let line = c.first_line-line.result.now in
-    let parts = line_and_others text turn.start line c.first_line-line.ensures c.loop-start-test.true in
-    c.fault_at.ensures
-    ∙ fault_here text c.args.separator turn.under turn.number turn.start turn.invariant line c.check_line-checked.result
-    (told (goal.at.returns-in_default c).After-check_line-checked) _ parts _ c.in_default.is
-
-pub slice_bounds-first_line_length-count : goal.slice_bounds-first_line_length-count
-slice_bounds-first_line_length-count c = c.loop-start.invariant.within
-
-pub slice_bounds-first_line_length-start : goal.slice_bounds-first_line_length-start
-slice_bounds-first_line_length-start c = c.loop-start.invariant.within
-
-pub loop-start-smaller : goal.loop-start-smaller
-loop-start-smaller c =
-    let passed = read (goal.at.loop-start-smaller c).After-first_line_length-start in
-    omega (arith, passed.within, passed.further)
-
-pub loop-start-preserved : goal.loop-start-preserved
-loop-start-preserved c =
-    let turn = c.loop-start in
-    let passed = read (goal.at.loop-start-preserved c).After-first_line_length-start in
-    let checked = told (goal.at.loop-start-preserved c).After-check_line-checked in
-    rw (c.under_after-under.ensures ∙ ap (under_after turn.under) c.kind_of-kind.ensures)
-    (
-    checks_go_on c.args.text.now c.args.separator turn.under turn.number turn.start turn.invariant c.first_line-line.result.now
-    c.check_line-checked.result checked _ passed c.in-Right.is
-    )
+pub loop-before-preserved : goal.loop-before-preserved
+loop-before-preserved c =
+    let goes_on = checks_go_on c.args.text.separator (lines c.args.text.bytes.now) c.loop-before.under c.in-Some.before
+    (lines (enumerate_source c.loop-before.before-iterator).rest.now) (rw (sym c.in-Some.ensures.steps.1) at c.loop-before.invariant.2)
+    c.in-Some.bytes.now (lines (enumerate_source c.next.new.self).rest.now) c.in-Some.ensures.steps.0
+    c.kind_of-kind.result c.kind_of-kind.ensures c.check_line.result c.check_line.ensures _ (sym c.at_line.ensures ∙ c.in_ok-at_line.was) in
+    (c.in-Some.ensures.goes.keeps, tt, rw (c.in-Some.ensures.steps.2, sym c.in-Some.ensures.steps.1) (rw (sym c.is_heading.ensures ∙ c.if-is_heading.false) at goes_on))
 
 pub returns : goal.returns
 returns c =
-    let turn = c.loop-start in
-    no_fault c.args.text.now c.args.separator turn.under turn.number turn.start turn.invariant (omega arith)
+    no_fault c.args.text.separator (lines c.args.text.bytes.now) c.loop-before.under (enumerate_count c.loop-before.before-iterator)
+    (lines (enumerate_source c.loop-before.before-iterator).rest.now) c.loop-before.invariant.2 c.in-None.ensures.steps.0.0

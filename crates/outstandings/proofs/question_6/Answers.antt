@@ -1,73 +1,98 @@
--- A walk through the rows of both lists (`RowWalk`), each with its opening.
-use borrow.Author.Rules.{rules}
-use mathlib.Core.Path.{◌≡◌, sym, ap, ◌∙◌}
-use Prim.Native.Nat.{suc, ◌+◌, ◌-◌, ◌≤◌}
-use native.Mathlib.Omega.{arith}
-use mir.Syntax.{w64}
-use mir.Val.{to_z, of_z}
-use Rattle.integers.proofs.MachineArithmetic.{held}
-use Rattle.method.specs.Triangle.{amounts_length, entry}
-use Rattle.method.proofs.FirstRefusal.{next_refused, all_accepted}
+-- A walk through the cells, row by row (`CellWalk`), with the outstanding of each from the one before (`RowOutstandings`).
+use Rattle.std.proofs.Common.{rules, ◌≡◌, [], sym, ap, ◌∙◌, suc, ◌+◌, ◌-◌, ◌<◌, ◌+ℤ◌, ◌-ℤ◌, get_or, length, pos, w64, to_z, of_z, arith}
+use Rattle.integers.proofs.MachineArithmetic.{Held, held}
+use Rattle.method.specs.Triangle.{cells_before}
+use Rattle.method.specs.Verdicts.{at, ask, each_cell}
+use Rattle.method.specs.Tests.{outstanding_in_range}
+use Rattle.method.specs.Questions.{question_6}
+use Rattle.method.proofs.FirstRefusal.{none_asked, next_accepted, next_refused, all_accepted}
+use Rattle.method.proofs.Positions.{cells_before_none}
 use Rattle.verdicts.specs.Verdicts.{verdict_of}
-use Rattle.outstandings.specs.Observed.{outstandings_of_year, all_outstandings}
-use Rattle.cells.proofs.RowWalk.{before_first_row, row_end_inside, before_next_row, part_is_row}
-use Rattle.outstandings.proofs.ObservedRows.{outstandings_of_row, row_right}
+use Rattle.verdicts.proofs.Refusals.{handed_on}
+use Rattle.cells.proofs.CellWalk.{row_is, next_row_start, place_inside}
+use Rattle.outstandings.proofs.RowOutstandings.{before_first_year, movable, next_verdict, next_year_passed}
 use Rattle.outstandings.proofs.question_6.Goals as goal
-use Rattle.outstandings.proofs.question_6.Goals.{After-opening_of-opening, After-outstandings_in_row-verdict, In-loop-r}
+use Rattle.outstandings.proofs.question_6.Goals.{In-loop-j, After-asked_at}
 
 pub loop-r-init : goal.loop-r-init
-loop-r-init c = before_first_row _ _
+loop-r-init c = record { start_is = sym (cells_before_none _); so_far = λ weights. none_asked _ _ }
 
--- the next row is inside both lists
-inside : (c : In-loop-r) → c.loop-r.start + (c.args.n - c.loop-r.r) ≤ amounts_length c.args.n
-inside c = row_end_inside c.loop-r.invariant (omega arith)
+pub loop-j-init : goal.loop-j-init
+loop-j-init c = λ weights.
+    let opened = held c.opening_of-outstanding.result c.opening_of-outstanding.type_inv ∙ c.opening_of-outstanding.ensures in
+    simp opened (before_first_year _ _ _ _ weights _ c.requires _)
 
--- it starts from its opening
-opened : (c : After-opening_of-opening) → to_z w64 (of_z w64 c.opening_of-opening.result) ≡ entry
-    c.args.openings.now (suc c.loop-r.r)
-opened c = held c.opening_of-opening.result c.opening_of-opening.type_inv ∙ c.opening_of-opening.ensures
+-- where the cell at hand stands
+place : (c : In-loop-j) → let at = c.loop-r.start + c.loop-j.j in
+    (at < length c.args.payments.now) × (at < length c.args.adjustments.now) × (at < 1024)
+place c =
+    let inside = place_inside c.args.n c.loop-r.r c.loop-j.j c.requires.most (omega arith) in
+    rw c.loop-r.invariant.start_is (omega (arith, c.requires.payments_length), omega (arith, c.requires.adjustments_length), inside.1)
 
--- its verdict
-row : (c : After-outstandings_in_row-verdict) → let a = c.args in
-    verdict_of c.outstandings_in_row-verdict.result
-    ≡ outstandings_of_year a.n a.cut a.payments.now a.adjustments.now a.openings.now (c.loop-r.r + 1)
-row c =
-    let a = c.args in
-    let w = c.loop-r.invariant in
-    let opening : to_z w64 (of_z w64 c.opening_of-opening.result) ≡ entry a.openings.now (suc c.loop-r.r) =
-    held c.opening_of-opening.result c.opening_of-opening.type_inv ∙ c.opening_of-opening.ensures in
-    (simp (opening, part_is_row w a.payments.now, part_is_row w a.adjustments.now) at c.outstandings_in_row-verdict.ensures)
-    ∙ sym (outstandings_of_row a.n a.cut a.payments.now a.adjustments.now a.openings.now c.loop-r.r)
+pub overflow_add-at : goal.overflow_add-at
+overflow_add-at c = let here = place (goal.at.overflow_add-at c).In-loop-j in search rules
 
-pub overflow_add-end : goal.overflow_add-end
-overflow_add-end c = let l = inside (goal.at.overflow_add-end c).In-loop-r in let p = c.requires.payments_length in search rules
+pub offset_bounds-payments-at : goal.offset_bounds-payments-at
+offset_bounds-payments-at c = let here = place (goal.at.offset_bounds-payments-at c).In-loop-j in search rules
 
-pub offset_bounds-payments-start : goal.offset_bounds-payments-start
-offset_bounds-payments-start c = let l = inside (goal.at.offset_bounds-payments-start c).In-loop-r in let p = c.requires.payments_length in search rules
+pub bounds-payments-at : goal.bounds-payments-at
+bounds-payments-at c = (place (goal.at.bounds-payments-at c).In-loop-j).0
 
-pub slice_bounds-outstandings_in_row-end : goal.slice_bounds-outstandings_in_row-end
-slice_bounds-outstandings_in_row-end c = let l = inside (goal.at.slice_bounds-outstandings_in_row-end c).In-loop-r in let p = c.requires.payments_length in search rules
+pub offset_bounds-adjustments-at : goal.offset_bounds-adjustments-at
+offset_bounds-adjustments-at c = let here = place (goal.at.offset_bounds-adjustments-at c).In-loop-j in search rules
 
-pub offset_bounds-adjustments-start : goal.offset_bounds-adjustments-start
-offset_bounds-adjustments-start c = let l = inside (goal.at.offset_bounds-adjustments-start c).In-loop-r in let p = c.requires.adjustments_length in search rules
+pub bounds-adjustments-at : goal.bounds-adjustments-at
+bounds-adjustments-at c = (place (goal.at.bounds-adjustments-at c).In-loop-j).1
 
-pub outstandings_in_row-verdict-requires : goal.outstandings_in_row-verdict-requires
-outstandings_in_row-verdict-requires c =
-    let w = c.loop-r.invariant in
-    simp (opened (goal.at.outstandings_in_row-verdict-requires c).After-opening_of-opening, part_is_row w c.args.payments.now, part_is_row w c.args.adjustments.now)
-    (row_right _ _ _ _ _ c.requires _ (omega arith))
+pub next_outstanding-outstanding-requires : goal.next_outstanding-outstanding-requires
+next_outstanding-outstanding-requires c =
+    let at = c.loop-r.start + c.loop-j.j in
+    let read : Held (get_or c.args.payments.now at (pos 0)) × Held (get_or c.args.adjustments.now at (pos 0)) = (search rules, search rules) in
+    let amounts = rw c.loop-r.invariant.start_is at read in
+    simp (c.loop-r.invariant.start_is, amounts.0, amounts.1) (movable _ _ _ _ [] _ c.requires _ _ (omega arith) _ (c.loop-j.invariant []))
 
-pub returns-in_default : goal.returns-in_default
-unfolding all_outstandings
-returns-in_default c =
-    let e = ap verdict_of c.in_default.is in
-    e ∙ sym (next_refused c.loop-r.invariant.so_far (omega arith) (sym (row (goal.at.returns-in_default c).After-outstandings_in_row-verdict) ∙ e))
+-- the outstanding of the next year, and the verdict on it
+moved : (c : After-asked_at) → to_z w64 (of_z w64 c.next_outstanding-outstanding.result)
+    ≡ to_z w64 c.loop-j.outstanding-bits
+    -ℤ get_or c.args.payments.now (cells_before c.args.n c.loop-r.r + c.loop-j.j) (pos 0)
+    +ℤ get_or c.args.adjustments.now (cells_before c.args.n c.loop-r.r + c.loop-j.j) (pos 0)
+moved c =
+    let at = c.loop-r.start + c.loop-j.j in
+    let read : Held (get_or c.args.payments.now at (pos 0)) × Held (get_or c.args.adjustments.now at (pos 0)) = (search rules, search rules) in
+    let amounts = rw c.loop-r.invariant.start_is at read in
+    held c.next_outstanding-outstanding.result c.next_outstanding-outstanding.type_inv
+    ∙ (simp (c.loop-r.invariant.start_is, amounts.0, amounts.1) at c.next_outstanding-outstanding.ensures)
+
+verdict : (c : After-asked_at) → verdict_of c.asked_at.result
+    ≡ ask (outstanding_in_range c.args.cut (c.loop-r.r + 1) (c.loop-j.j + 1) (to_z w64 (of_z w64 c.next_outstanding-outstanding.result))) 6 (at (c.loop-r.r + 1) (c.loop-j.j + 1))
+verdict c = rw c.outstanding_in_range-in_range.ensures at c.asked_at.ensures
+
+pub returns-in_err-asked_at : goal.returns-in_err-asked_at
+unfolding question_6 each_cell
+returns-in_err-asked_at c = λ weights.
+    let here = (goal.at.returns-in_err-asked_at c).After-asked_at in
+    let years = c.loop-j.invariant weights in
+    let no = sym (next_verdict _ _ _ _ weights _ c.requires _ _ (omega arith) _ years _ (moved here)) ∙ sym (verdict here) ∙ ap verdict_of c.in_err-asked_at.was in
+    let all = next_refused (c.loop-r.invariant.so_far weights) (omega arith) (sym (row_is _ _ _ _ (omega arith)) ∙ next_refused years.so_far (omega arith) no) in
+    handed_on _ c.in_err-asked_at.field-0.0 c.from_residual.ensures.1 ∙ sym all
+
+pub loop-j-preserved : goal.loop-j-preserved
+loop-j-preserved c = λ weights.
+    let here = (goal.at.loop-j-preserved c).After-asked_at in
+    next_year_passed _ _ _ _ weights _ c.requires _ _ (omega arith) _ (c.loop-j.invariant weights) _ (moved here) (sym (verdict here) ∙ ap verdict_of c.in_ok-asked_at.was)
+
+pub overflow_add-start : goal.overflow_add-start
+overflow_add-start c =
+    let place = place_inside c.args.n c.loop-r.r (c.args.n - suc c.loop-r.r) c.requires.most (omega arith) in
+    let fits : c.loop-r.start + (c.args.n - c.loop-r.r) < 1025 = omega (arith, c.loop-r.invariant.start_is) in search rules
 
 pub loop-r-preserved : goal.loop-r-preserved
-loop-r-preserved c =
-    before_next_row c.loop-r.invariant (omega arith)
-    (sym (row (goal.at.loop-r-preserved c).After-outstandings_in_row-verdict) ∙ ap verdict_of c.in-Accepted.is)
+loop-r-preserved c = record {
+  start_is = next_row_start _ _ _ c.loop-r.invariant.start_is;
+  so_far = λ weights. next_accepted (c.loop-r.invariant.so_far weights) (omega arith)
+      (sym (row_is _ _ _ _ (omega arith)) ∙ all_accepted (c.loop-j.invariant weights).so_far (omega arith));
+}
 
 pub returns : goal.returns
-unfolding all_outstandings
-returns c = sym (all_accepted c.loop-r.invariant.so_far (omega arith))
+unfolding question_6 each_cell
+returns c = λ weights. sym (all_accepted (c.loop-r.invariant.so_far weights) (omega arith))

@@ -3,14 +3,6 @@ use mir.Facts.{to_z-of_z}
 use Rattle.ratios.proofs.DevelopmentYear.{term_fits, sum_fits}
 use Rattle.ratios.proofs.plus.Goals as goal
 
-pub overflow_mul-result : goal.overflow_mul-result
-overflow_mul-result c = simp (to_z-of_z c.ranges.weight, to_z-of_z c.ranges.amount) (term_fits c.args.sum c.args.weight c.args.amount c.requires)
-
-pub overflow_add-result : goal.overflow_add-result
-overflow_add-result c =
-    simp (to_z-of_z c.ranges.sum, to_z-of_z c.ranges.weight, to_z-of_z c.ranges.amount, to_z-of_z (term_fits _ _ _ c.requires))
-    (sum_fits c.args.sum c.args.weight c.args.amount c.requires)
-
 pub returns : goal.returns
 returns c =
     simp (to_z-of_z c.ranges.sum, to_z-of_z c.ranges.weight, to_z-of_z c.ranges.amount, to_z-of_z (term_fits _ _ _ c.requires), to_z-of_z (sum_fits _ _ _ c.requires))

@@ -1,23 +1,14 @@
 -- The test of the outstanding, the share, and the number that stands for it.
-use mathlib.Core.Path.{◌≡◌, sym, ap, ◌∙◌}
-use lib.IntN.{pos}
-use mir.Syntax.{w64}
-use mir.Facts.{to_z-of_z}
+use Rattle.std.proofs.Common.{◌≡◌, pos, sym, ap, ◌∙◌, to_z-of_z, w64}
 use Rattle.integers.proofs.MachineArithmetic.{held}
 use Rattle.method.specs.Limits.{greatest_figure}
 use Rattle.method.specs.Tests.{from_to}
-use Rattle.method.proofs.Tests.{from_to_true}
 use Rattle.share_benchmark.specs.Shares.{as_number, share_number}
 use Rattle.share_benchmark.proofs.share_of.Goals as goal
 use Rattle.share_benchmark.proofs.share_of.Goals.{After-from_to}
 
 tested : (c : After-from_to) → from_to (pos 0) greatest_figure c.args.outstanding ≡ c.from_to.result
 tested c = sym (simp (to_z-of_z {w = w64} c.ranges.outstanding) at c.from_to.ensures)
-
-pub rounded_share-requires : goal.rounded_share-requires
-rounded_share-requires c =
-    let range = from_to_true (pos 0) greatest_figure c.args.outstanding (tested (goal.at.rounded_share-requires c).After-from_to ∙ c.if-from_to.true) in
-    simp (to_z-of_z c.ranges.outstanding) (record { outstanding_nonneg = range.0; outstanding_most = range.1; ready = c.requires })
 
 pub returns-then-from_to : goal.returns-then-from_to
 unfolding share_number

@@ -40,4 +40,4 @@ returns-then-from_to c =
 
 pub returns-else-from_to : goal.returns-else-from_to
 returns-else-from_to c =
-    out_of_range_unseen c.args.years c.args.accident_year c.args.development_year (tested (goal.at.returns-else-from_to c).After-from_to ∙ c.if-from_to.false)
+    c.if-from_to.false ∙ out_of_range_unseen c.args.years c.args.accident_year c.args.development_year (tested (goal.at.returns-else-from_to c).After-from_to ∙ c.if-from_to.false)

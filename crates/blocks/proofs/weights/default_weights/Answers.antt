@@ -32,7 +32,7 @@ loop-rows-preserved c =
     (omega (arith, turn.invariant.count_within, turn.invariant.same_length)) c.fill_row.auto.row
     )
     (c.fill_row.auto.row ∙ size)
-    (c.fill_row.ensures ∙ ap₂ default_row c.less.ensures size)
+    (c.fill_row.ensures ∙ ap₂ default_row c.saturating_sub.ensures size)
 
 pub shape_of-list : goal.shape_of-list
 shape_of-list c = c.loop-rows.invariant.same_length

@@ -1,10 +1,6 @@
 -- Row after row, from the left. Each row is a part of the list that is lent, filled, and back.
-use Prim.Native.Nat.{◌-◌}
 use Rattle.blocks.proofs.WeightsFilled.{WeightsFilled}
 use Rattle.blocks.proofs.weights.default_weights.Given as goal
 
 abbrev pub invariant-loop-rows : goal.invariant-loop-rows
 invariant-loop-rows l = WeightsFilled l.n l.cut l.initial.list l.list l.count l.rows
-
-abbrev pub decreases-loop-rows : goal.decreases-loop-rows
-decreases-loop-rows l = l.n - l.rows

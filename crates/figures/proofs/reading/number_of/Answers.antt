@@ -1,39 +1,30 @@
--- By whether there are digits, by whether there are only digits, and by the sign.
-use mathlib.Core.Path.{sym, ap, ◌∙◌}
-use mathlib.Core.Bool.{true, false}
-use native.Mathlib.Omega.{arith}
-use lib.IntN.{pos, neg_ℤ}
-use Rattle.figures.specs.Reading.{value_of, whole_of, number_of}
-use Rattle.figures.proofs.DigitsRead.{kept_whole}
-use Rattle.figures.proofs.CellsRead.{no_digits, other_bytes, only_digits}
+-- By whether there are only digits, and by the sign.
+use Rattle.std.proofs.Common.{rules, ◌≡◌, ◌∙◌, sym, ap, length, ◌<◌}
+use Rattle.std.specs.Option.{ok_or}
+use Rattle.exact_sums.specs.Exact.{exact_of}
+use Rattle.figures.specs.Reading.{value_of, with_sign}
+use Rattle.figures.specs.declared.reading.NoFigure.TheVariants.{TooLarge}
+use Rattle.figures.proofs.Digits.{kept, no_digits, other_bytes, only_digits, kept_whole, ok_or_is_whole}
 use Rattle.figures.proofs.reading.number_of.Goals as goal
+use Rattle.figures.proofs.reading.number_of.Goals.{then-is_empty-via-then-is_empty, then-is_empty-via-else-is_empty+then-not-all_digits}
 
-pub returns-then-digits-eq0 : goal.returns-then-digits-eq0
-returns-then-digits-eq0 c = no_digits c.args.negative c.args.digits.now (omega arith)
-
-pub size_of-size-requires : goal.size_of-size-requires
-size_of-size-requires c = sym c.all_digits.ensures ∙ c.if-all_digits.true
-
-pub returns-then-negative : goal.returns-then-negative
-returns-then-negative c =
-    let digits = c.args.digits.now in
-    let only = sym c.all_digits.ensures ∙ c.if-all_digits.true in
-    c.below_zero.ensures
-    ∙ ap (λ size. whole_of (neg_ℤ (pos size))) c.size_of-size.ensures
-    ∙ kept_whole true (value_of digits)
-    ∙ only_digits true digits (omega arith) only
-    ∙ ap (λ negative. number_of negative digits) (sym c.if-negative.true)
-
-pub returns-then-all_digits : goal.returns-then-all_digits
-returns-then-all_digits c =
-    let digits = c.args.digits.now in
-    let only = sym c.all_digits.ensures ∙ c.if-all_digits.true in
-    c.from_zero.ensures
-    ∙ ap (λ size. whole_of (pos size)) c.size_of-size.ensures
-    ∙ kept_whole false (value_of digits)
-    ∙ only_digits false digits (omega arith) only
-    ∙ ap (λ negative. number_of negative digits) (sym c.if-negative.false)
+pub returns-then-is_empty : goal.returns-then-is_empty
+returns-then-is_empty c =
+    elim c.then-is_empty.branch [
+      | then-is_empty-via-then-is_empty w ↦ no_digits c.args.negative c.args.digits.now (search rules)
+      | then-is_empty-via-else-is_empty+then-not-all_digits w ↦
+          other_bytes c.args.negative c.args.digits.now (sym w.all_digits.ensures ∙ w.if-not-all_digits.true)
+    ]
 
 pub returns : goal.returns
 returns c =
-    other_bytes c.args.negative c.args.digits.now (sym c.all_digits.ensures ∙ c.if-all_digits.false)
+    let digits = c.args.digits.now in
+    let negative = c.args.negative in
+    let some : 0 < length digits = search rules in
+    let number : c.with_sign.result ≡ exact_of (with_sign negative (kept (value_of digits))) =
+    c.with_sign.ensures ∙ ap (λ size. exact_of (with_sign negative size)) c.size_of.ensures in
+    c.ok_or.ensures.value
+    ∙ ap (λ o. ok_or o TooLarge) number
+    ∙ ok_or_is_whole (with_sign negative (kept (value_of digits)))
+    ∙ kept_whole negative (value_of digits)
+    ∙ only_digits negative digits some (sym c.all_digits.ensures ∙ c.if-not-all_digits.false)

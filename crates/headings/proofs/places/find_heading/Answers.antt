@@ -1,63 +1,54 @@
--- The text from the line on that is read next has the heading of the whole text; each turn passes a line.
-use mathlib.Core.Path.{◌≡◌, sym, ap, ◌∙◌}
-use Prim.Native.Nat.{◌+◌}
+-- Each turn passes a line that is not the heading.
+use mathlib.Core.Path.{◌≡◌, refl, sym, ap, ◌∙◌}
+use mathlib.Core.List.{◌∷◌}
 use native.Mathlib.Omega.{arith}
+use borrow.Author.Rules.{rules}
+use Rattle.text.specs.Lines.{lines}
+use Rattle.text.proofs.LinesOfText.{no_lines, first_and_others}
 use Rattle.line_kinds.specs.Kinds.{kind_of, same_kind}
-use Rattle.text.proofs.LinesOfText.{LineAt, line_read}
-use Rattle.headings.proofs.HeadingSearch.{search_begins, search_goes_on, heading_found, heading_not_found}
+use Rattle.line_kinds.proofs.SameKinds.{same_by_number}
+use Rattle.headings.proofs.HeadingSearch.{found_there, found_nowhere, search_goes_on, left_at_first, left_after_next}
 use Rattle.headings.proofs.places.find_heading.Goals as goal
-use Rattle.headings.proofs.places.find_heading.Goals.{After-first_line_length, After-same_kind}
+use Rattle.headings.proofs.places.find_heading.Goals.{After-eq}
 
-read : (c : After-first_line_length) → let start = c.loop-start.start in
-    LineAt c.args.text.now start c.first_line.result.now (start + c.first_line_length.result)
-read c =
-    line_read c.args.text.now c.loop-start.start c.first_line.result.now c.first_line.ensures c.loop-start-test.true
-    c.first_line_length.result c.first_line_length.ensures
-
-told : (c : After-same_kind) → let args = c.args in
-    c.same_kind.result ≡ same_kind (kind_of args.separator c.first_line.result.now) args.heading
+-- whether the line is the heading
+told : (c : After-eq) → c.eq.result ≡ same_kind (kind_of c.args.text.separator c.first_line.result.now) c.args.heading
 told c =
-    let args = c.args in
-    c.same_kind.ensures ∙ ap (λ kind. same_kind kind args.heading) c.kind_of-kind.ensures
+    c.eq.ensures
+    ∙ same_by_number c.kind_of.result c.args.heading
+    ∙ ap (λ kind. same_kind kind c.args.heading) c.kind_of.ensures
 
-pub loop-start-init : goal.loop-start-init
-loop-start-init c = search_begins c.args.text.now c.args.separator c.args.heading
+-- the line and those after it are the lines that were left
+steps : (c : After-eq) → lines c.loop-rest.rest.now ≡ c.first_line.result.now ∷ lines c.after_line-rest.result.now
+steps c =
+    first_and_others c.loop-rest.rest.now c.after_line-rest.result.now (search rules) c.after_line-rest.ensures
+    ∙ ap (λ line. line ∷ lines c.after_line-rest.result.now) (sym c.first_line.ensures)
 
-pub slice_bounds-first_line-count : goal.slice_bounds-first_line-count
-slice_bounds-first_line-count c = c.loop-start.invariant.within
+pub loop-rest-init : goal.loop-rest-init
+loop-rest-init c = (record { counted = omega arith; same_lines = refl; same_number = refl }, left_at_first c.args.text.bytes.now)
 
-pub slice_bounds-first_line-start : goal.slice_bounds-first_line-start
-slice_bounds-first_line-start c = c.loop-start.invariant.within
+pub overflow_add-line : goal.overflow_add-line
+overflow_add-line c = let within = c.loop-rest.invariant.1.line_within in search rules
 
-pub slice_bounds-first_line_length-count : goal.slice_bounds-first_line_length-count
-slice_bounds-first_line_length-count c = c.loop-start.invariant.within
+pub returns-then-eq : goal.returns-then-eq
+returns-then-eq c =
+    let turn = (goal.at.returns-then-eq c).After-eq in
+    found_there c.args.text.separator c.args.heading c.args.text.bytes.now c.loop-rest.line c.loop-rest.rest.now c.loop-rest.invariant.0
+    c.loop-rest.invariant.1 c.first_line.result c.after_line-rest.result (search rules) c.after_line-rest.ensures (steps turn) (sym (told turn) ∙ c.if-eq.true)
 
-pub slice_bounds-first_line_length-start : goal.slice_bounds-first_line_length-start
-slice_bounds-first_line_length-start c = c.loop-start.invariant.within
+pub loop-rest-smaller : goal.loop-rest-smaller
+loop-rest-smaller c = c.after_line-rest.ensures.shorter (search rules)
 
-pub returns-then-same_kind : goal.returns-then-same_kind
-returns-then-same_kind c =
-    let args = c.args in
-    let turn = c.loop-start in
-    heading_found args.text.now args.separator args.heading turn.line turn.start turn.invariant c.first_line.result.now _
-    (read (goal.at.returns-then-same_kind c).After-first_line_length)
-    (sym (told (goal.at.returns-then-same_kind c).After-same_kind) ∙ c.if-same_kind.true)
-
-pub loop-start-smaller : goal.loop-start-smaller
-loop-start-smaller c =
-    let passed = read (goal.at.loop-start-smaller c).After-first_line_length in
-    omega (arith, passed.within, passed.further)
-
-pub loop-start-preserved : goal.loop-start-preserved
-loop-start-preserved c =
-    let args = c.args in
-    let turn = c.loop-start in
-    search_goes_on args.text.now args.separator args.heading turn.line turn.start turn.invariant c.first_line.result.now _
-    (read (goal.at.loop-start-preserved c).After-first_line_length)
-    (sym (told (goal.at.loop-start-preserved c).After-same_kind) ∙ c.if-same_kind.false)
+pub loop-rest-preserved : goal.loop-rest-preserved
+loop-rest-preserved c =
+    let turn = (goal.at.loop-rest-preserved c).After-eq in (
+      search_goes_on c.args.text.separator c.args.heading (lines c.args.text.bytes.now) c.loop-rest.line (lines c.loop-rest.rest.now)
+          c.loop-rest.invariant.0 c.first_line.result.now (lines c.after_line-rest.result.now) (steps turn) (sym (told turn) ∙ c.if-eq.false),
+      left_after_next c.args.text.bytes.now c.loop-rest.line c.loop-rest.rest.now c.loop-rest.invariant.1 c.after_line-rest.result.now (search rules)
+          c.after_line-rest.ensures,
+    )
 
 pub returns : goal.returns
 returns c =
-    let args = c.args in
-    let turn = c.loop-start in
-    heading_not_found args.text.now args.separator args.heading turn.line turn.start turn.invariant (omega arith)
+    found_nowhere c.args.text.separator c.args.heading c.args.text.bytes.now c.loop-rest.line c.loop-rest.rest.now c.loop-rest.invariant.0
+    (no_lines c.loop-rest.rest.now 0 (search rules))

@@ -1,11 +1,12 @@
--- The text from the line on that is read next has the heading of the whole text; each turn passes a line.
-use Prim.Native.Nat.{◌-◌}
-use lib.ListN.{length}
-use Rattle.headings.proofs.HeadingSearch.{SearchedTo}
+-- What is left of the text has the heading of the whole; each turn leaves one byte less at least.
+use Rattle.std.specs.Prelude.{length}
+use Rattle.headings.proofs.HeadingSearch.{SearchedTo, LeftAfter}
+use Rattle.text.specs.Lines.{lines}
 use Rattle.headings.proofs.places.find_heading.Given as goal
 
-abbrev pub invariant-loop-start : goal.invariant-loop-start
-invariant-loop-start l = SearchedTo l.text l.separator l.heading l.line l.start
+abbrev pub invariant-loop-rest : goal.invariant-loop-rest
+invariant-loop-rest l =
+    SearchedTo l.text.separator l.heading (lines l.text.bytes.now) l.line (lines l.rest) × LeftAfter l.text.bytes.now l.line l.rest
 
-abbrev pub decreases-loop-start : goal.decreases-loop-start
-decreases-loop-start l = length l.text - l.start
+abbrev pub decreases-loop-rest : goal.decreases-loop-rest
+decreases-loop-rest l = length l.rest

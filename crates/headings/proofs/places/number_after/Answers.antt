@@ -1,38 +1,29 @@
--- The line that is read is the heading's; by the figure that its word is.
-use mathlib.Core.Path.{◌≡◌, sym, ap, ◌∙◌}
+-- By the figure that the word after the heading is; a heading that is not there has no word.
+use mathlib.Core.Path.{◌≡◌, refl, ap, ◌∙◌}
 use borrow.Author.Rules.{rules}
 use mir.Facts.{to_z-of_z}
+use Rattle.std.specs.Prelude.{ℤ, Result, Ok, Err}
+use Rattle.std.specs.Result.{result_unwrap_or}
 use Rattle.figures.specs.Reading.{figure_of}
-use Rattle.text.specs.Lines.{lines}
-use Rattle.line_parts.specs.Words.{word}
+use Rattle.figures.specs.declared.reading.NoFigure.{NoFigure}
 use Rattle.headings.specs.Places.{whole_or, number_after}
-use Rattle.headings.proofs.HeadingSearch.{found_line}
+use Rattle.headings.proofs.HeadingSearch.{heading_word, no_heading_word}
 use Rattle.headings.proofs.places.number_after.Goals as goal
-use Rattle.headings.proofs.places.number_after.Goals.{After-figure_of-figure}
 
-told : (c : After-figure_of-figure) → let args = c.args in
-    whole_or args.other c.figure_of-figure.result
-    ≡ number_after args.separator args.heading args.number args.other (lines args.text.now)
+or_other : (figure : Result ℤ NoFigure) (other : ℤ) → result_unwrap_or figure other ≡ whole_or other figure
+or_other (Ok number) other = refl
+or_other (Err fault) other = refl
+
+pub returns-in-Some : goal.returns-in-Some
 unfolding number_after
-told c =
+returns-in-Some c =
     let args = c.args in
-    let line = found_line args.text.now args.separator args.heading c.find_heading-found.result c.find_heading-found.ensures
-    c.first_line.result.now c.first_line.ensures in
-    ap (whole_or args.other) (c.figure_of-figure.ensures ∙ ap figure_of (c.word.ensures ∙ ap (word args.separator args.number) line))
-
-pub returns-in-Blank : goal.returns-in-Blank
-returns-in-Blank c =
-    simp (to_z-of_z c.ranges.other) (ap (whole_or c.args.other) (sym c.in-Blank.is) ∙ told (goal.at.returns-in-Blank c).After-figure_of-figure)
-
-pub returns-in-Whole : goal.returns-in-Whole
-returns-in-Whole c =
-    let e = ap (whole_or c.args.other) (sym c.in-Whole.is) ∙ told (goal.at.returns-in-Whole c).After-figure_of-figure in
+    let figure = c.figure_of.ensures ∙ ap figure_of (c.word.ensures ∙ heading_word c.in-Some.ensures args.number) in
+    let told = simp (to_z-of_z c.ranges.other) at c.unwrap_or.ensures in
+    let e = told ∙ or_other c.figure_of.result args.other ∙ ap (whole_or args.other) figure in
     search rules
 
-pub returns-in-TooLarge : goal.returns-in-TooLarge
-returns-in-TooLarge c =
-    simp (to_z-of_z c.ranges.other) (ap (whole_or c.args.other) (sym c.in-TooLarge.is) ∙ told (goal.at.returns-in-TooLarge c).After-figure_of-figure)
-
-pub returns-in-NotWhole : goal.returns-in-NotWhole
-returns-in-NotWhole c =
-    simp (to_z-of_z c.ranges.other) (ap (whole_or c.args.other) (sym c.in-NotWhole.is) ∙ told (goal.at.returns-in-NotWhole c).After-figure_of-figure)
+pub returns-in-None : goal.returns-in-None
+unfolding number_after figure_of
+returns-in-None c =
+    simp (to_z-of_z c.ranges.other) (ap (λ word. whole_or c.args.other (figure_of word)) (no_heading_word c.in-None.ensures c.args.number))

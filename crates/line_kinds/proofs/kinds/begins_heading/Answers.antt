@@ -1,15 +1,14 @@
--- By the length of the text and its first byte.
-use mathlib.Core.Path.{◌∙◌}
-use Rattle.line_kinds.proofs.KindsOfLines.{no_heading_begins, heading_after_quote, heading_without_quote}
+-- By the double quote that the text may begin with.
+use mathlib.Core.List.{List}
+use mathlib.Core.Path.{ap, ◌∙◌}
+use Prim.Native.Nat.{ℕ}
+use Rattle.std.proofs.Common.{Bor}
+use Rattle.line_kinds.specs.Kinds.{begins_with_letter}
+use Rattle.line_kinds.proofs.KindsOfLines.{without_quote}
 use Rattle.line_kinds.proofs.kinds.begins_heading.Goals as goal
-
-pub returns-then-text-eq0 : goal.returns-then-text-eq0
-returns-then-text-eq0 c = no_heading_begins c.args.text.now c.if-text-eq0.true
-
-pub returns-then-text-eq34 : goal.returns-then-text-eq34
-returns-then-text-eq34 c =
-    c.begins_with_letter.ensures ∙ heading_after_quote c.args.text.now c.if-text-eq0.false c.if-text-eq34.true
 
 pub returns : goal.returns
 returns c =
-    c.is_letter.ensures ∙ heading_without_quote c.args.text.now c.if-text-eq0.false c.if-text-eq34.false
+    c.begins_with_letter.ensures
+    ∙ ap (λ (text : Bor (List ℕ)). begins_with_letter text.now) c.unwrap_or.ensures
+    ∙ without_quote c.args.text c.strip_prefix.result c.strip_prefix.ensures.cases

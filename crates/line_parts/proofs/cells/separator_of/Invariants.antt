@@ -1,13 +1,11 @@
--- What is left of the text has the separator of the whole; each turn passes a line.
-use mathlib.Core.Path.{◌≡◌}
-use Prim.Native.Nat.{◌-◌, ◌≤◌}
-use lib.ListN.{length, drop}
+-- What is left of the text has the separator of the whole.
+use Rattle.std.proofs.Common.{◌≡◌}
 use Rattle.text.specs.Lines.{lines}
 use Rattle.line_parts.specs.Cells.{separator_in}
 use Rattle.line_parts.proofs.cells.separator_of.Given as goal
 
-abbrev pub invariant-loop-start : goal.invariant-loop-start
-invariant-loop-start l = (l.start ≤ length l.text) × (separator_in (lines (drop l.start l.text)) ≡ separator_in (lines l.text))
-
-abbrev pub decreases-loop-start : goal.decreases-loop-start
-decreases-loop-start l = length l.text - l.start
+abbrev pub invariant-loop-line : goal.invariant-loop-line
+invariant-loop-line l =
+    (goal.iterator-loop-line).can_next l.line-iterator ×
+    (goal.iterator-loop-line).is_finite l.line-iterator ×
+    (separator_in (lines l.line-iterator.rest.now) ≡ separator_in (lines l.text))

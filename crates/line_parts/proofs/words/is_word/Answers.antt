@@ -1,32 +1,16 @@
--- What is left of the word and of the name decides; each turn leaves one letter less of both.
-use mathlib.Core.Path.{sym, ◌∙◌}
-use native.Mathlib.Omega.{arith}
-use Rattle.line_parts.proofs.WordsOfLine.{same_letter, other_letter, no_more_letters, other_length}
+-- As long as one another, and the same letter by letter.
+use mathlib.Core.Path.{ap, ◌∙◌}
+use mathlib.Core.Bool.{◌&&◌}
+use Rattle.std.proofs.Common.{rules, nat_eq, length}
+use Rattle.std.proofs.lemmas.Iterator.{YieldsList-from_slice, YieldsList-from_zip}
+use Rattle.std.proofs.lemmas.Iterator.Search.{all_from_yields_List}
+use Rattle.line_parts.proofs.WordsOfLine.{same_letter, letter_by_letter}
 use Rattle.line_parts.proofs.words.is_word.Goals as goal
-
-pub returns-then-word-name : goal.returns-then-word-name
-returns-then-word-name c =
-    let args = c.args in
-    other_length args.word.now args.name.now c.if-word-name.true
-
-pub returns-then-small-name : goal.returns-then-small-name
-returns-then-small-name c =
-    let args = c.args in
-    let letter = c.small.ensures in
-    other_letter args.word.now args.name.now c.loop-at.at (omega arith) (omega arith) (λ e. c.if-small-name.true (letter ∙ e))
-    ∙ c.loop-at.invariant.2
-
-pub loop-at-preserved : goal.loop-at-preserved
-loop-at-preserved c =
-    let args = c.args in
-    let letter = c.small.ensures in (
-      omega arith,
-      c.loop-at.invariant.1,
-      same_letter args.word.now args.name.now c.loop-at.at (omega arith) (omega arith) (sym letter ∙ c.if-small-name.false)
-          ∙ c.loop-at.invariant.2,
-    )
 
 pub returns : goal.returns
 returns c =
-    let args = c.args in
-    no_more_letters args.word.now args.name.now c.loop-at.at (omega arith) (omega arith) ∙ c.loop-at.invariant.2
+    let word = c.args.word.now in
+    let name = c.args.name.now in
+    let letters = all_from_yields_List same_letter c.all.new.self _ c.all.result c.all.ensures.ran
+    (YieldsList-from_zip (YieldsList-from_slice word cc) (YieldsList-from_slice name cc)) (λ x b q k. search rules) in
+    ap (λ same. nat_eq (length word) (length name) && same) letters ∙ letter_by_letter word name

@@ -6,4 +6,5 @@ use Rattle.malformed.proofs.messages.fault_line.Goals as goal
 pub returns : goal.returns
 unfolding fault_line
 returns c =
-    line_after c.fault_place-place.ensures (both_after c.with_expected.ensures (both_after c.with_text.ensures c.with_shown.ensures))
+    let expected = rw c.expected_text.ensures at c.with_text-expected.ensures in
+    line_after c.fault_place.ensures (both_after expected (both_after c.with_text.ensures c.with_shown.ensures))

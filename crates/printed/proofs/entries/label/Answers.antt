@@ -1,18 +1,16 @@
 -- The figure, with as many spaces before it as its column leaves.
-use mir.Syntax.{w64}
-use mir.Val.{SFits}
-use mir.Facts.{to_z-of_z}
-use Rattle.written_figures.specs.Writing.{whole_text}
-use Rattle.written_figures.proofs.TextLengths.{whole_text_length}
-use Rattle.printed.proofs.LineTexts.{line_after}
-use Rattle.printed.proofs.EntryTexts.{figure_set_right}
+use mathlib.Core.Path.{◌≡◌, ap, ◌∙◌}
+use Prim.Native.Nat.{◌-◌}
+use Rattle.integers.proofs.MachineArithmetic.{held}
+use lib.ListN.{length}
+use Rattle.printed.specs.Entries.{count_text}
+use Rattle.printed.proofs.LineTexts.{both_after, line_after}
 use Rattle.printed.proofs.entries.label.Goals as goal
 
 pub returns : goal.returns
 returns c =
-    let number = c.signed.result in
-    let fits : SFits w64 number = record { sfits = c.signed.type_inv } in
-    let is = simp (to_z-of_z {w = w64} fits) at c.whole-written.ensures in
-    let after = figure_set_right c.args.column (whole_text number) is (whole_text_length number fits)
-    (rw c.less.ensures at c.with_spaces.ensures) c.with_written.ensures in
-    rw c.signed.ensures at (line_after c.empty.ensures after)
+    let written = rw c.signed.ensures at (simp (held c.signed.result c.signed.type_inv) at c.whole-written.ensures.text) in
+    let text : c.text-2.result.now ≡ count_text c.args.number = c.text-2.ensures ∙ written in
+    let left : c.saturating_sub-spaces.result ≡ c.args.column - length (count_text c.args.number) =
+    c.saturating_sub-spaces.ensures ∙ ap (λ t. c.args.column - length t) (c.text.ensures ∙ written) in
+    line_after c.empty.ensures (both_after (rw left at c.with_spaces.ensures) (rw text at c.with_text.ensures))

@@ -1,24 +1,20 @@
--- By the number of the question.
+-- By the question.
 use borrow.Author.Rules.{rules}
 use Rattle.refusals.specs.Sentences.{in_text}
 use Rattle.refusals.proofs.lines.in_text.Goals as goal
 
-pub returns-in-4 : goal.returns-in-4
+pub returns-in-WeightInRange : goal.returns-in-WeightInRange
 unfolding in_text
-returns-in-4 c = rw c.in-4.is
+returns-in-WeightInRange c = search rules
 
-pub returns-in-5 : goal.returns-in-5
+pub returns-in-AmountRight : goal.returns-in-AmountRight
 unfolding in_text
-returns-in-5 c = rw c.in-5.is c.amounts_in_text.ensures
+returns-in-AmountRight c = rw c.in-AmountRight.is c.amounts_in_text.ensures
 
-pub returns-in-6 : goal.returns-in-6
+pub returns-in-OutstandingInRange : goal.returns-in-OutstandingInRange
 unfolding in_text
-returns-in-6 c = rw c.in-6.is c.observed_in_text.ensures
+returns-in-OutstandingInRange c = rw c.in-OutstandingInRange.is c.observed_in_text.ensures
 
-pub returns-in-7 : goal.returns-in-7
+pub returns-in-Years : goal.returns-in-Years
 unfolding in_text
-returns-in-7 c = rw c.in-7.is
-
-pub returns-in_default : goal.returns-in_default
-unfolding in_text
-returns-in_default c = search rules
+returns-in-Years c = search rules

@@ -7,4 +7,4 @@ pub returns : goal.returns
 unfolding see_line
 returns c =
     let line = c.signed in
-    rw (← line.ensures) (simp (held line.result line.type_inv) at c.filled_1.ensures)
+    rw (← line.ensures) (simp (held line.result line.type_inv) at c.filled.ensures)

@@ -8,4 +8,4 @@ unfolding see_lines
 returns c =
     let first = c.signed in
     let second = c.signed-2 in
-    rw (← first.ensures, ← second.ensures) (simp (held first.result first.type_inv, held second.result second.type_inv) at c.filled_2.ensures)
+    rw (← first.ensures, ← second.ensures) (simp (held first.result first.type_inv, held second.result second.type_inv) at c.filled.ensures)

@@ -1,73 +1,62 @@
--- By the number of the question; the years are those of the place.
+-- By the question; the years are those of the place.
+use borrow.Author.Rules.{rules}
 use native.Mathlib.Omega.{arith}
-use borrow.Author.Tests.{ne_eqb}
 use Rattle.integers.proofs.MachineArithmetic.{held}
-use Rattle.refusals.specs.Sentences.{sentence}
+use Rattle.refusals.specs.Sentences.{years_sentence, weight_sentence, weight_not_0_sentence, projected_sentence, sentence}
 use Rattle.refusals.proofs.lines.sentence.Goals as goal
 
-pub returns-in-1 : goal.returns-in-1
-unfolding sentence
-returns-in-1 c =
-    let args = c.args in
-    rw c.in-1.is (simp (held args.lent.years (omega arith)) at c.years_sentence.ensures)
+pub returns-in-Years : goal.returns-in-Years
+unfolding years_sentence sentence
+returns-in-Years c = rw c.in-Years.is (simp (held c.args.triangle.years (omega arith)) at c.filled.ensures)
 
-pub returns-in-2 : goal.returns-in-2
+pub returns-in-Cut : goal.returns-in-Cut
 unfolding sentence
-returns-in-2 c =
-    let args = c.args in
-    rw c.in-2.is (simp (held args.lent.cut (omega arith), held args.lent.years (omega arith)) at c.cut_sentence.ensures)
+returns-in-Cut c = rw c.in-Cut.is (simp (held c.args.triangle.cut (omega arith), held c.args.triangle.years (omega arith)) at c.cut_sentence.ensures)
 
-pub returns-in-3 : goal.returns-in-3
+pub returns-in-Lengths : goal.returns-in-Lengths
 unfolding sentence
-returns-in-3 c =
-    rw c.in-3.is c.lengths_sentence.ensures
+returns-in-Lengths c = rw c.in-Lengths.is c.lengths_sentence.ensures
 
-pub returns-in-4 : goal.returns-in-4
-unfolding sentence
-returns-in-4 c =
-    let i_held = held c.args.place.accident_year (omega arith) in
-    let k_held = held c.args.place.development_year (omega arith) in
-    let args = c.args in
-    rw c.in-4.is (simp (i_held, k_held, held args.found.weight (omega arith)) at c.weight_sentence.ensures)
+pub returns-in-WeightInRange : goal.returns-in-WeightInRange
+unfolding weight_sentence sentence
+returns-in-WeightInRange c =
+    let i_held = held c.args.refusal.place.accident_year (omega arith) in
+    let k_held = held c.args.refusal.place.development_year (omega arith) in
+    rw c.in-WeightInRange.is (simp (i_held, k_held, held c.args.found.weight (omega arith)) at c.filled-in-WeightInRange.ensures)
 
-pub returns-in-5 : goal.returns-in-5
+pub returns-in-AmountRight : goal.returns-in-AmountRight
 unfolding sentence
-returns-in-5 c =
-    let i_held = held c.args.place.accident_year (omega arith) in
-    let k_held = held c.args.place.development_year (omega arith) in
-    rw c.in-5.is (simp (i_held, k_held) at c.amounts_sentence.ensures)
+returns-in-AmountRight c =
+    let i_held = held c.args.refusal.place.accident_year (omega arith) in
+    let k_held = held c.args.refusal.place.development_year (omega arith) in
+    rw c.in-AmountRight.is (simp (i_held, k_held) at c.amounts_sentence.ensures)
 
-pub returns-in-6 : goal.returns-in-6
+pub returns-in-OutstandingInRange : goal.returns-in-OutstandingInRange
 unfolding sentence
-returns-in-6 c =
-    let i_held = held c.args.place.accident_year (omega arith) in
-    let k_held = held c.args.place.development_year (omega arith) in
-    rw c.in-6.is (simp (i_held, k_held) at c.observed_sentence.ensures)
+returns-in-OutstandingInRange c =
+    let i_held = held c.args.refusal.place.accident_year (omega arith) in
+    let k_held = held c.args.refusal.place.development_year (omega arith) in
+    rw c.in-OutstandingInRange.is (simp (i_held, k_held) at c.observed_sentence.ensures)
 
-pub returns-in-7 : goal.returns-in-7
-unfolding sentence
-returns-in-7 c =
-    let i_held = held c.args.place.accident_year (omega arith) in
-    let k_held = held c.args.place.development_year (omega arith) in
-    let args = c.args in
-    rw c.in-7.is (simp (i_held, k_held, held args.found.weight (omega arith)) at c.weight_not_0_sentence.ensures)
+pub returns-in-WeightAllowed : goal.returns-in-WeightAllowed
+unfolding weight_not_0_sentence sentence
+returns-in-WeightAllowed c =
+    let i_held = held c.args.refusal.place.accident_year (omega arith) in
+    let k_held = held c.args.refusal.place.development_year (omega arith) in
+    rw c.in-WeightAllowed.is (simp (i_held, k_held, held c.args.found.weight (omega arith)) at c.filled-in-WeightAllowed.ensures)
 
-pub returns-in-8 : goal.returns-in-8
+pub returns-in-Exposure : goal.returns-in-Exposure
 unfolding sentence
-returns-in-8 c =
-    let k_held = held c.args.place.development_year (omega arith) in
-    rw c.in-8.is (simp (k_held) at c.exposure_sentence.ensures)
+returns-in-Exposure c =
+    rw c.in-Exposure.is (simp (held c.args.refusal.place.development_year (omega arith)) at c.exposure_sentence.ensures)
 
-pub returns-in-9 : goal.returns-in-9
-unfolding sentence
-returns-in-9 c =
-    let i_held = held c.args.place.accident_year (omega arith) in
-    let k_held = held c.args.place.development_year (omega arith) in
-    rw c.in-9.is (simp (i_held, k_held) at c.projected_sentence.ensures)
+pub returns-in-ProjectedFigure : goal.returns-in-ProjectedFigure
+unfolding projected_sentence sentence
+returns-in-ProjectedFigure c =
+    let i_held = held c.args.refusal.place.accident_year (omega arith) in
+    let k_held = held c.args.refusal.place.development_year (omega arith) in
+    rw c.in-ProjectedFigure.is (simp (i_held, k_held) at c.filled-in-ProjectedFigure.ensures)
 
-pub returns-in_default : goal.returns-in_default
+pub returns-in-YearsAsked : goal.returns-in-YearsAsked
 unfolding sentence
-returns-in_default c =
-    let args = c.args in
-    let question = args.question in
-    rw (ne_eqb question 1 (omega arith), ne_eqb question 2 (omega arith), ne_eqb question 3 (omega arith), ne_eqb question 4 (omega arith), ne_eqb question 5 (omega arith), ne_eqb question 6 (omega arith), ne_eqb question 7 (omega arith), ne_eqb question 8 (omega arith), ne_eqb question 9 (omega arith)) (simp (held args.lent.accident_year (omega arith), held args.lent.development_year (omega arith)) at c.seen_cell_sentence.ensures)
+returns-in-YearsAsked c = search rules

@@ -1,34 +1,20 @@
 -- The numbers are the lengths, each with the one that is wanted.
-use borrow.Author.Rules.{rules}
 use mathlib.Core.Path.{ap, ◌∙◌}
-use Prim.Native.Nat.{◌+◌, ◌*◌, ◌/◌}
+use Prim.Native.Nat.{◌*◌, ◌/◌}
 use native.Mathlib.Omega.{arith}
 use Rattle.integers.proofs.MachineArithmetic.{held}
-use Rattle.verdicts.proofs.Counts.{few_cells}
 use Rattle.printed.specs.Counts.{as_number}
 use Rattle.refusals.specs.Sentences.{lengths_sentence}
 use Rattle.refusals.proofs.sentences.lengths_sentence.Goals as goal
 
-pub overflow_mul-n : goal.overflow_mul-n
-overflow_mul-n c =
-    let n = c.count_of-n.result in
-    let few = few_cells n (n + 1) c.count_of-n.ensures.1 (omega arith) in
-    search rules
-
-pub overflow_mul-n-2 : goal.overflow_mul-n-2
-overflow_mul-n-2 c =
-    let n = c.count_of-n.result in
-    let few = few_cells n c.less.result (omega arith) (omega arith) in
-    search rules
-
 pub returns : goal.returns
 unfolding lengths_sentence
 returns c =
-    let lent = c.args.lent in
-    let n_is = simp (held lent.years (omega arith)) at c.count_of-n.ensures.0 in
-    let cut_is = simp (held lent.cut (omega arith)) at c.count_of.ensures.0 in
-    let weights_is = c.signed-4.ensures ∙ ap (λ m. as_number (c.count_of-n.result * m / 2)) c.less.ensures in
-    let openings_is = c.signed-6.ensures ∙ ap as_number c.less-2.ensures in
+    let triangle = c.args.triangle in
+    let n_is = simp (held triangle.years (omega arith)) at c.count_of-n.ensures.0 in
+    let cut_is = simp (held triangle.cut (omega arith)) at c.count_of.ensures.0 in
+    let weights_is = c.signed-4.ensures ∙ ap (λ m. as_number (c.count_of-n.result * m / 2)) c.saturating_sub.ensures in
+    let openings_is = c.signed-6.ensures ∙ ap as_number c.saturating_sub-2.ensures in
     let numbers = simp (
       held c.signed-amounts.result c.signed-amounts.type_inv,
       held c.signed.result c.signed.type_inv,

@@ -6,6 +6,6 @@ use Rattle.reserve_table.proofs.reserve_rows.reserves_heading.Goals as goal
 pub returns : goal.returns
 unfolding reserves_heading
 returns c =
-    line_after c.line_of-years.ensures
-    (both_after c.with_text_entry-observed.ensures
-    (both_after c.with_text_entry-paid.ensures (both_after c.with_text_entry-incurred.ensures c.with_text_entry.ensures)))
+    line_after c.of.ensures
+    (both_after c.with_entry.ensures
+    (both_after c.with_entry-2.ensures (both_after c.with_entry-3.ensures c.with_entry-4.ensures)))

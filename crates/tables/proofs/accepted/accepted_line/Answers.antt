@@ -5,4 +5,4 @@ use Rattle.tables.proofs.accepted.accepted_line.Goals as goal
 
 pub returns : goal.returns
 returns c =
-    simp (to_z-of_z {w = w64} c.ranges.years, to_z-of_z {w = w64} c.ranges.cut) at c.filled_2.ensures
+    simp (to_z-of_z {w = w64} c.ranges.years, to_z-of_z {w = w64} c.ranges.cut) at c.filled.ensures

@@ -5,6 +5,4 @@ use Rattle.tables.proofs.sums_rows.sums_heading.Goals as goal
 
 pub returns : goal.returns
 unfolding sums_heading
-returns c =
-    line_after c.line_of-years.ensures
-    (both_after c.with_text_entry.ensures (both_after c.with_text_entry-2.ensures c.with_text_entry-3.ensures))
+returns c = line_after c.of.ensures (both_after c.with_entry.ensures (both_after c.with_entry-2.ensures c.with_entry-3.ensures))

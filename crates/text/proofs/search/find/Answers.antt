@@ -1,23 +1,13 @@
--- The place so far and the length of what is passed from there are the place sought; each turn leaves one byte less.
-use mathlib.Core.Path.{sym, ap, ◌∙◌}
-use lib.ListN.{length}
-use native.Mathlib.Omega.{arith}
-use Rattle.text.proofs.Searches.{found_here, found_later, not_found}
+-- The library's search passes bytes that are not sought, and stops at one that is.
+use Rattle.std.proofs.Common.{rules, ◌≡◌, length, ◌<◌, ◌≤◌, true, false, get_or, ℕ}
+use Rattle.text.proofs.Searches.{first_place}
 use Rattle.text.proofs.search.find.Goals as goal
 
-pub returns-then-is_sought : goal.returns-then-is_sought
-returns-then-is_sought c =
-    let args = c.args in
-    let here = sym c.is_sought.ensures ∙ c.if-is_sought.true in
-    omega (arith, ap length (found_here args.sought args.text.now c.loop-at.at (omega arith) here), c.loop-at.invariant.1)
-
-pub loop-at-preserved : goal.loop-at-preserved
-loop-at-preserved c =
-    let args = c.args in
-    let not_here = sym c.is_sought.ensures ∙ c.if-is_sought.false in
-    (omega arith, found_later args.sought args.text.now c.loop-at.at (omega arith) not_here ∙ c.loop-at.invariant.1)
-
-pub returns : goal.returns
-returns c =
-    let args = c.args in
-    omega (arith, not_found args.sought args.text.now c.loop-at.at (omega arith), c.loop-at.invariant.1)
+pub returns-clause-first : goal.returns-clause-first
+returns-clause-first g c = λ test computes.
+    let text = c.args.text.now in
+    let place = c.unwrap_or.result in
+    let within : place ≤ length text = search rules in
+    let passed : (k : ℕ) → k < place → false ≡ test (get_or text k 0) = search (rules, computes) in
+    let here : place < length text → true ≡ test (get_or text place 0) = search (rules, computes) in
+    first_place test text place within passed here

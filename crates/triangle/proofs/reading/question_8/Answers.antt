@@ -1,39 +1,35 @@
 -- A scan of the exposures.
-use borrow.Author.Rules.{rules}
-use mathlib.Core.Path.{◌≡◌}
-use mathlib.Core.Bool.{true, false}
-use mathlib.Core.Path.{sym, ◌∙◌}
-use native.Mathlib.Omega.{arith}
-use lib.IntN.{ℤ, pos}
-use lib.ListN.{get_or}
-use lib.Signed.{lt_z}
-use Rattle.method.proofs.FirstRefusal.{none_asked, next_accepted, next_refused, all_accepted}
+use Rattle.std.proofs.Common.{rules, ◌≡◌, ◌-◌, get_or, sym, ap, ◌∙◌, arith}
+use Rattle.integers.proofs.MachineArithmetic.{Held}
+use Rattle.method.proofs.FirstRefusal.{none_asked, all_accepted}
+use Rattle.verdicts.specs.Verdicts.{verdict_of}
+use Rattle.verdicts.proofs.Refusals.{handed_on}
 use Rattle.ratios.specs.Ratios.{no_sums}
-use Rattle.triangle.specs.Reading.{exposures}
-use Rattle.triangle.proofs.Exposures.{exposure_passed, exposure_refused}
+use Rattle.triangle.specs.Reading.{exposure_of_year, exposures}
+use Rattle.triangle.proofs.Exposures.{year_passed, year_refused}
 use Rattle.triangle.proofs.reading.question_8.Goals as goal
+use Rattle.triangle.proofs.reading.question_8.Goals.{After-asked_at}
 
-pub loop-j-init : goal.loop-j-init
-loop-j-init c = none_asked _ _
+-- the year at hand, as document 01 asks of it
+asked : (c : After-asked_at) → verdict_of c.asked_at.result ≡ exposure_of_year c.args.ratios c.loop-k.k
+unfolding exposure_of_year
+asked c = let exposure : Held (get_or c.args.ratios (c.loop-k.k - 1) no_sums).exposure = search rules in simp exposure at c.asked_at.ensures
 
-pub overflow_add-j : goal.overflow_add-j
-overflow_add-j c = let l = c.loop-j.invariant.within in search rules
+pub loop-k-init : goal.loop-k-init
+loop-k-init c = none_asked _ _
 
-pub returns-then-not-sums : goal.returns-then-not-sums
+pub returns-in_err-asked_at : goal.returns-in_err-asked_at
 unfolding exposures
-returns-then-not-sums c =
-    let l = c.loop-j in
-    let x : ℤ = (get_or c.args.ratios l.j no_sums).exposure in
-    let e : lt_z (pos 0) x ≡ false = search rules in
-    c.refusal_at.ensures ∙ sym (next_refused l.invariant (omega arith) (exposure_refused _ l.j e))
+returns-in_err-asked_at c =
+    handed_on _ c.in_err-asked_at.field-0.0 c.from_residual.ensures.1
+    ∙ sym (year_refused _ _ _ c.loop-k.invariant c.loop-k.auto.k c.loop-k-test.true
+    (sym (asked (goal.at.returns-in_err-asked_at c).After-asked_at) ∙ ap verdict_of c.in_err-asked_at.was))
 
-pub loop-j-preserved : goal.loop-j-preserved
-loop-j-preserved c =
-    let l = c.loop-j in
-    let x : ℤ = (get_or c.args.ratios l.j no_sums).exposure in
-    let e : lt_z (pos 0) x ≡ true = search rules in
-    next_accepted l.invariant (omega arith) (exposure_passed _ l.j e)
+pub loop-k-preserved : goal.loop-k-preserved
+loop-k-preserved c =
+    year_passed _ _ _ c.loop-k.invariant c.loop-k.auto.k c.loop-k-test.true
+    (sym (asked (goal.at.loop-k-preserved c).After-asked_at) ∙ ap verdict_of c.in_ok-asked_at.was)
 
 pub returns : goal.returns
 unfolding exposures
-returns c = sym (all_accepted c.loop-j.invariant (omega arith))
+returns c = sym (all_accepted c.loop-k.invariant (omega arith))

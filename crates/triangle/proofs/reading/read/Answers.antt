@@ -1,83 +1,72 @@
--- Questions 1 to 7, the ratios, question 8; a refusal has zeros beside it.
-use mathlib.Core.Path.{◌≡◌, sym, ap, ◌∙◌}
-use mir.Facts.{to_z-of_z}
-use Rattle.method.specs.Triangle.{Triangle}
+-- Questions 1 to 7, the ratios, question 8.
+use Rattle.std.proofs.Common.{rules, ◌≡◌, sym, ap, ◌∙◌}
+use Rattle.integers.proofs.MachineArithmetic.{Held}
 use Rattle.method.specs.Verdicts.{accepted}
 use Rattle.method.specs.Questions.{input_questions, question_8, observed_questions}
-use Rattle.method.proofs.FirstRefusal.{stopped, went_on}
+use Rattle.method.proofs.FirstRefusal.{went_on}
 use Rattle.method.proofs.QuestionFacts.{Observed}
+use Rattle.lent.specs.Triangles.{triangle_of, lists_right}
 use Rattle.verdicts.specs.Verdicts.{verdict_of}
 use Rattle.verdicts.proofs.Counts.{count_fits}
-use Rattle.questions.specs.Inputs.{triangle_of, lists_right}
+use Rattle.verdicts.proofs.Refusals.{handed_on, stopped_at}
 use Rattle.ratios.specs.Ratios.{DevelopmentOf}
 use Rattle.triangle.proofs.Exposures.{question_8_is}
-use Rattle.triangle.proofs.ReadingAnswers.{refused_reading, accepted_reading, observed, readable, development_is}
+use Rattle.triangle.proofs.ReadingAnswers.{refused_reading, observed, readable}
 use Rattle.triangle.proofs.reading.read.Goals as goal
-use Rattle.triangle.proofs.reading.read.Goals.{After-development_of-development, After-input_questions-inputs, After-question_8-exposed, In-Accepted, Start}
+use Rattle.triangle.proofs.reading.read.Goals.{Start, In_ok-input_questions, After-question_8}
 
--- the triangle that is read
-abbrev triangle : Start → Triangle
-triangle s = triangle_of s.args.years s.args.cut s.args.payments.now s.args.adjustments.now s.args.weights.now s.args.openings.now
-
--- where the code began, seen from the state in which questions 1 to 7 have accepted
-abbrev began : In-Accepted → Start
-began c = c.before.before
+-- the number of years is one of 64 bits
+years_held : (s : Start) → Held s.args.triangle.years
+years_held s = search rules
 
 -- questions 1 to 7
-inputs : (c : After-input_questions-inputs) → let t = triangle c.before in verdict_of c.input_questions-inputs.result ≡ input_questions t (lists_right t c.args.answers)
-inputs c = simp (to_z-of_z c.ranges.years, to_z-of_z c.ranges.cut) at c.input_questions-inputs.ensures
+passed : (c : In_ok-input_questions) → let t = triangle_of c.args.triangle in input_questions t (lists_right t c.args.answers) ≡ accepted
+passed c = sym c.in_ok-input_questions.ensures
 
-passed : (c : In-Accepted) → let t = triangle (began c) in input_questions t (lists_right t c.args.answers) ≡ accepted
-passed c = sym (inputs c.before) ∙ ap verdict_of c.in-Accepted.is
-
-read_of : (c : In-Accepted) → Observed (triangle (began c))
-read_of c =
-    let a = c.args in
-    observed a.years a.cut a.payments.now a.adjustments.now a.weights.now a.openings.now a.answers (passed c)
+read_of : (c : In_ok-input_questions) → Observed (triangle_of c.args.triangle)
+read_of c = observed (triangle_of c.args.triangle) c.args.answers (passed c)
 
 -- the ratios, and question 8
-made : (c : After-development_of-development)
-    → DevelopmentOf (triangle (began c.before)) c.development_of-development.result.ratios c.development_of-development.result.outstandings
-made c =
-    let a = c.args in
-    development_is a.years a.cut a.payments.now a.adjustments.now a.weights.now a.openings.now a.answers
-    (passed c.before) c.development_of-development.result (simp (to_z-of_z c.ranges.years) at c.development_of-development.ensures)
+made : (c : After-question_8) → let d = c.development_of-development.result in DevelopmentOf (triangle_of c.args.triangle) d.ratios d.outstandings
+made c = c.development_of-development.ensures.development c.args.triangle.cut
 
-eight : (c : After-question_8-exposed) → verdict_of c.question_8-exposed.result ≡ question_8 (triangle (began c.before.before.before))
-eight c =
-    (simp (to_z-of_z c.ranges.years) at c.question_8-exposed.ensures) ∙ question_8_is (triangle (began c.before.before.before)) _ _ (made c.before.before)
+eight : (c : After-question_8) → Held c.args.triangle.years → verdict_of c.question_8.result ≡ question_8 (triangle_of c.args.triangle)
+eight c years = (simp years at c.question_8.ensures) ∙ question_8_is (triangle_of c.args.triangle) _ _ (made c)
 
-pub returns-in_default : goal.returns-in_default
+pub returns-in_err-input_questions : goal.returns-in_err-input_questions
 unfolding observed_questions
-returns-in_default c =
-    let no = ap verdict_of c.in_default.is in
-    rw c.refused.ensures (refused_reading _ _ _ (stopped _ (inputs (goal.at.returns-in_default c).After-input_questions-inputs) no) no)
-
-pub overflow_cast-n : goal.overflow_cast-n
-overflow_cast-n c =
-    let here = goal.at.overflow_cast-n c in
-    simp (to_z-of_z c.ranges.years) (count_fits c.args.years
-    (read_of here.In-Accepted).years.counted (read_of here.In-Accepted).years.most)
+returns-in_err-input_questions c =
+    refused_reading _ _ _ _ c.from_residual.ensures.1 (stopped_at _ _ c.input_questions.ensures c.in_err-input_questions.was c.from_residual.ensures.1)
 
 pub development_of-development-requires : goal.development_of-development-requires
-development_of-development-requires c =
-    let a = c.args in
-    simp (to_z-of_z c.ranges.years) (readable a.years a.cut _ _ _ _ a.answers (passed (goal.at.development_of-development-requires c).In-Accepted))
+development_of-development-requires c = readable (triangle_of c.args.triangle) c.args.answers (passed c)
 
-pub question_8-exposed-requires : goal.question_8-exposed-requires
-question_8-exposed-requires c = simp (to_z-of_z c.ranges.years) (read_of (goal.at.question_8-exposed-requires c).In-Accepted).years.most
+pub overflow_cast-triangle : goal.overflow_cast-triangle
+overflow_cast-triangle c =
+    let here = goal.at.overflow_cast-triangle c in
+    let years = (read_of here.In_ok-input_questions).years in
+    simp (years_held here.Start) (count_fits c.args.triangle.years years.counted years.most)
 
-pub returns-in_default-exposed : goal.returns-in_default-exposed
+pub question_8-requires : goal.question_8-requires
+question_8-requires c =
+    let here = goal.at.question_8-requires c in
+    simp (years_held here.Start) (read_of here.In_ok-input_questions).years.most
+
+pub returns-in_err-question_8 : goal.returns-in_err-question_8
 unfolding observed_questions
-returns-in_default-exposed c =
-    let here = goal.at.returns-in_default-exposed c in
-    let no = ap verdict_of c.in_default-exposed.is in
-    rw c.refused-in_default-exposed.ensures (refused_reading _ _ _ (went_on (passed here.In-Accepted) (eight here.After-question_8-exposed)) no)
+returns-in_err-question_8 c =
+    let here = goal.at.returns-in_err-question_8 c in
+    refused_reading _ _ _ _ c.from_residual-in_err-question_8.ensures.1
+    (went_on (passed here.In_ok-input_questions)
+    (handed_on _ c.in_err-question_8.field-0.0 c.from_residual-in_err-question_8.ensures.1
+    ∙ (sym (ap verdict_of c.in_err-question_8.was) ∙ eight here.After-question_8 (years_held here.Start))))
 
 pub returns : goal.returns
 unfolding observed_questions
 returns c =
     let here = goal.at.returns c in
-    let yes = ap verdict_of c.in-Accepted-exposed.is in
-    accepted_reading _ _ _ (went_on (passed here.In-Accepted) (eight here.After-question_8-exposed)) _ yes
-    (made here.After-development_of-development)
+    record {
+      verdict_is = went_on (passed here.In_ok-input_questions)
+          (sym (ap verdict_of c.in_ok-question_8.was) ∙ eight here.After-question_8 (years_held here.Start));
+      development_is = made here.After-question_8;
+    }

@@ -44,4 +44,5 @@ returns-then-from_to c =
 
 pub returns-else-from_to : goal.returns-else-from_to
 returns-else-from_to c =
-    not_wanted c.args.years c.args.cut (tested (goal.at.returns-else-from_to c).After-from_to ∙ c.if-from_to.false)
+    c.if-from_to.false
+    ∙ not_wanted c.args.years c.args.cut (tested (goal.at.returns-else-from_to c).After-from_to ∙ c.if-from_to.false)

@@ -1,8 +1,9 @@
--- Each list is read as its block, and the first fault of the four is that of the text.
-use mathlib.Core.Path.{◌≡◌, ap, ◌∙◌}
+-- Each list is read as its block, up to the first fault of the four.
+use mathlib.Core.Path.{◌≡◌}
 use mathlib.Core.Bool.{true}
 use Prim.Native.Nat.{◌-◌, ◌≤◌}
 use native.Mathlib.Omega.{arith}
+use borrow.Author.Rules.{rules}
 use lib.IntN.{nat_abs}
 use lib.ListN.{length}
 use mir.Syntax.{w64}
@@ -14,12 +15,13 @@ use Rattle.method.specs.Limits.{most_accident_years}
 use Rattle.method.specs.Triangle.{amounts_length, weights_length}
 use Rattle.method.proofs.QuestionFacts.{YearsInRange, CutInRange}
 use Rattle.verdicts.proofs.Counts.{count_fits}
-use Rattle.blocks.specs.Blocks.{BlockReadAs}
-use Rattle.triangle_text.specs.Reading.{triangle_under, weights_under, openings_under, lists_wanted, lists_in, first_fault}
+use Rattle.row_text.specs.Rows.{ReadAs}
+use Rattle.row_text.proofs.ReadLists.{right_is, right_within, wrong_is}
+use Rattle.triangle_text.specs.Reading.{triangle_under, weights_under, openings_under, lists_wanted, lists_in}
 use Rattle.triangle_text.specs.declared.reading.Asked.{Asked}
-use Rattle.triangle_text.proofs.ListsRead.{wanted, counted_fits, amounts_fit, blocks_read}
+use Rattle.triangle_text.proofs.ListsRead.{wanted, counted_fits, amounts_fit, text_wrong, all_read}
 use Rattle.triangle_text.proofs.reading.read_lists.Goals as goal
-use Rattle.triangle_text.proofs.reading.read_lists.Goals.{After-first_of-fault}
+use Rattle.triangle_text.proofs.reading.read_lists.Goals.{After-read_triangle, After-read_triangle-2, After-read_weights, After-read_openings}
 
 -- ---- The number of accident years and the cut are small
 
@@ -50,14 +52,14 @@ overflow_cast-cut c =
     let asked = c.args.asked in
     simp (to_z-of_z (cut_fits asked c.requires.1)) (count_fits asked.cut (cut asked c.requires.1).counted (cut_few asked c.requires.1))
 
-pub read_triangle-paid-requires : goal.read_triangle-paid-requires
-read_triangle-paid-requires c =
+pub read_triangle-requires : goal.read_triangle-requires
+read_triangle-requires c =
     let asked = c.args.asked in
     let most = (years asked c.requires.1).most in
     simp (to_z-of_z (years_fit asked c.requires.1)) (c.requires.0, most, omega (arith, amounts_fit (nat_abs asked.years) most_accident_years most))
 
-pub read_triangle-adjusted-requires : goal.read_triangle-adjusted-requires
-read_triangle-adjusted-requires c =
+pub read_triangle-requires-2 : goal.read_triangle-requires-2
+read_triangle-requires-2 c =
     let asked = c.args.asked in
     let most = (years asked c.requires.1).most in
     simp (to_z-of_z (years_fit asked c.requires.1)) (c.requires.0, most, omega (arith, amounts_fit (nat_abs asked.years) most_accident_years most))
@@ -67,62 +69,84 @@ overflow_sub-n c =
     let asked = c.args.asked in
     simp (to_z-of_z (years_fit asked c.requires.1)) (omega (arith, (years asked c.requires.1).fewest))
 
-pub read_weights-weighted-requires : goal.read_weights-weighted-requires
-read_weights-weighted-requires c =
+pub read_weights-requires : goal.read_weights-requires
+read_weights-requires c =
     let asked = c.args.asked in
     let most = (years asked c.requires.1).most in
     let fewer : nat_abs asked.years - 1 ≤ 31 = omega arith in
     simp (to_z-of_z (years_fit asked c.requires.1)) (c.requires.0, omega arith, omega (arith, amounts_fit (nat_abs asked.years - 1) 31 fewer))
 
--- ---- The four blocks
+-- ---- The four blocks, of lists that have their room, as their arrays say
 
--- the lists have their room, as their arrays say
-payments_long : (c : After-first_of-fault) → length c.args.payments.now ≡ amounts_length most_accident_years
-payments_long c = omega arith
-
-adjustments_long : (c : After-first_of-fault) → length c.args.adjustments.now ≡ amounts_length most_accident_years
-adjustments_long c = omega arith
-
-weights_long : (c : After-first_of-fault) → length c.args.weights.now ≡ weights_length most_accident_years
-weights_long c = omega arith
-
-openings_long : (c : After-first_of-fault) → length c.args.openings.now ≡ most_accident_years
-openings_long c = omega arith
-
-payments_read : (c : After-first_of-fault) → let a = c.args in
-    BlockReadAs (triangle_under a.separator (lines a.text.now) Payments (nat_abs a.asked.years) (nat_abs a.asked.cut) (amounts_length most_accident_years))
-    c.read_triangle-paid.result c.read_triangle-paid.new.list
+payments_read : (c : After-read_triangle) → let a = c.args in
+    ReadAs (triangle_under a.text.separator (lines a.text.bytes.now) Payments (nat_abs a.asked.years) (nat_abs a.asked.cut) (amounts_length most_accident_years))
+    c.read_triangle.result c.read_triangle.new.list
 payments_read c =
     let asked = c.args.asked in
-    simp (to_z-of_z (years_fit asked c.requires.1), to_z-of_z (cut_fits asked c.requires.1), payments_long c) at c.read_triangle-paid.ensures
+    let long : length c.args.payments.now ≡ amounts_length most_accident_years = omega arith in
+    simp (to_z-of_z (years_fit asked c.requires.1), to_z-of_z (cut_fits asked c.requires.1), long) at c.read_triangle.ensures
 
-adjustments_read : (c : After-first_of-fault) → let a = c.args in
-    BlockReadAs (triangle_under a.separator (lines a.text.now) Adjustments (nat_abs a.asked.years) (nat_abs a.asked.cut) (amounts_length most_accident_years))
-    c.read_triangle-adjusted.result c.read_triangle-adjusted.new.list
+adjustments_read : (c : After-read_triangle-2) → let a = c.args in
+    ReadAs (triangle_under a.text.separator (lines a.text.bytes.now) Adjustments (nat_abs a.asked.years) (nat_abs a.asked.cut) (amounts_length most_accident_years))
+    c.read_triangle-2.result c.read_triangle-2.new.list
 adjustments_read c =
     let asked = c.args.asked in
-    simp (to_z-of_z (years_fit asked c.requires.1), to_z-of_z (cut_fits asked c.requires.1), adjustments_long c) at c.read_triangle-adjusted.ensures
+    let long : length c.args.adjustments.now ≡ amounts_length most_accident_years = omega arith in
+    simp (to_z-of_z (years_fit asked c.requires.1), to_z-of_z (cut_fits asked c.requires.1), long) at c.read_triangle-2.ensures
 
-weights_read : (c : After-first_of-fault) → let a = c.args in
-    BlockReadAs (weights_under a.separator (lines a.text.now) (nat_abs a.asked.years - 1) (nat_abs a.asked.cut) (weights_length most_accident_years))
-    c.read_weights-weighted.result c.read_weights-weighted.new.list
+weights_read : (c : After-read_weights) → let a = c.args in
+    ReadAs (weights_under a.text.separator (lines a.text.bytes.now) (nat_abs a.asked.years - 1) (nat_abs a.asked.cut) (weights_length most_accident_years))
+    c.read_weights.result c.read_weights.new.list
 weights_read c =
     let asked = c.args.asked in
-    simp (to_z-of_z (years_fit asked c.requires.1), to_z-of_z (cut_fits asked c.requires.1), weights_long c) at c.read_weights-weighted.ensures
+    let long : length c.args.weights.now ≡ weights_length most_accident_years = omega arith in
+    simp (to_z-of_z (years_fit asked c.requires.1), to_z-of_z (cut_fits asked c.requires.1), long) at c.read_weights.ensures
 
-openings_read : (c : After-first_of-fault) → let a = c.args in
-    BlockReadAs (openings_under a.separator (lines a.text.now) most_accident_years) c.read_openings-opened.result c.read_openings-opened.new.list
-openings_read c = rw (openings_long c) at c.read_openings-opened.ensures
+openings_read : (c : After-read_openings) → let a = c.args in
+    ReadAs (openings_under a.text.separator (lines a.text.bytes.now) most_accident_years) c.read_openings.result c.read_openings.new.list
+openings_read c =
+    let long : length c.args.openings.now ≡ most_accident_years = omega arith in
+    rw long at c.read_openings.ensures
 
-faults : (c : After-first_of-fault) → c.first_of-fault.result
-    ≡ first_fault c.read_triangle-paid.result.fault (first_fault c.read_triangle-adjusted.result.fault
-    (first_fault c.read_weights-weighted.result.fault c.read_openings-opened.result.fault))
-faults c =
-    let later = c.first_of-2.ensures ∙ ap (first_fault c.read_triangle-adjusted.result.fault) c.first_of.ensures in
-    c.first_of-fault.ensures ∙ ap (first_fault c.read_triangle-paid.result.fault) later
+-- ---- The first fault
+
+pub returns-in_err-payments : goal.returns-in_err-payments
+unfolding lists_in
+returns-in_err-payments c =
+    let wrong = wrong_is _ (payments_read (goal.at.returns-in_err-payments c).After-read_triangle) c.in_err-payments.was in
+    text_wrong {fault = c.in_err-payments.field-0.0} (rw wrong) (search rules)
+
+pub returns-in_err-adjustments : goal.returns-in_err-adjustments
+unfolding lists_in
+returns-in_err-adjustments c =
+    let payments = right_is _ (payments_read (goal.at.returns-in_err-adjustments c).After-read_triangle) c.in_ok-payments.was in
+    let wrong = wrong_is _ (adjustments_read (goal.at.returns-in_err-adjustments c).After-read_triangle-2) c.in_err-adjustments.was in
+    text_wrong {fault = c.in_err-adjustments.field-0.0} (rw (payments, wrong)) (search rules)
+
+pub returns-in_err-weights : goal.returns-in_err-weights
+unfolding lists_in
+returns-in_err-weights c =
+    let payments = right_is _ (payments_read (goal.at.returns-in_err-weights c).After-read_triangle) c.in_ok-payments.was in
+    let adjustments = right_is _ (adjustments_read (goal.at.returns-in_err-weights c).After-read_triangle-2) c.in_ok-adjustments.was in
+    let wrong = wrong_is _ (weights_read (goal.at.returns-in_err-weights c).After-read_weights) c.in_err-weights.was in
+    text_wrong {fault = c.in_err-weights.field-0.0} (rw (payments, adjustments, wrong)) (search rules)
+
+pub returns-in_err-openings : goal.returns-in_err-openings
+unfolding lists_in
+returns-in_err-openings c =
+    let payments = right_is _ (payments_read (goal.at.returns-in_err-openings c).After-read_triangle) c.in_ok-payments.was in
+    let adjustments = right_is _ (adjustments_read (goal.at.returns-in_err-openings c).After-read_triangle-2) c.in_ok-adjustments.was in
+    let weights = right_is _ (weights_read (goal.at.returns-in_err-openings c).After-read_weights) c.in_ok-weights.was in
+    let wrong = wrong_is _ (openings_read (goal.at.returns-in_err-openings c).After-read_openings) c.in_err-openings.was in
+    text_wrong {fault = c.in_err-openings.field-0.0} (rw (payments, adjustments, weights, wrong)) (search rules)
 
 pub returns : goal.returns
 unfolding lists_in
 returns c =
-    let read = (goal.at.returns c).After-first_of-fault in
-    rw (faults read) (blocks_read c.args.asked (payments_read read) (adjustments_read read) (weights_read read) (openings_read read))
+    let payments = payments_read (goal.at.returns c).After-read_triangle in
+    let adjustments = adjustments_read (goal.at.returns c).After-read_triangle-2 in
+    let weights = weights_read (goal.at.returns c).After-read_weights in
+    let openings = openings_read (goal.at.returns c).After-read_openings in
+    all_read c.args.asked _ _ _ _
+    (right_is _ payments c.in_ok-payments.was) (right_is _ adjustments c.in_ok-adjustments.was) (right_is _ weights c.in_ok-weights.was) (right_is _ openings c.in_ok-openings.was)
+    (right_within _ payments c.in_ok-payments.was) (right_within _ adjustments c.in_ok-adjustments.was) (right_within _ weights c.in_ok-weights.was) (right_within _ openings c.in_ok-openings.was)

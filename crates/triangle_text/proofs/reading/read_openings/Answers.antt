@@ -1,12 +1,13 @@
--- The lines under their heading are read.
-use Rattle.triangle_text.proofs.BlocksUnder.{under_heading}
+-- The lines under their heading are read, where there is one.
+use Rattle.triangle_text.proofs.LinesUnder.{lines_input}
+use Rattle.triangle_text.proofs.BlocksUnder.{under_heading, no_heading}
 use Rattle.triangle_text.proofs.reading.read_openings.Goals as goal
 
+pub returns-in_default : goal.returns-in_default
+returns-in_default c = no_heading (rw c.in_default.is at c.find_heading.ensures) _ _ _
+
 pub read_lines-requires : goal.read_lines-requires
-read_lines-requires c =
-    let found = c.find_heading-found.ensures in
-    let pre = c.requires in
-    record { short = pre.0; within = found.rows_within; few_lines = found.line_small; room_for_all = pre.1 }
+read_lines-requires c = lines_input (rw c.in-Some.is at c.find_heading.ensures) c.requires.0 c.requires.1
 
 pub returns : goal.returns
-returns c = under_heading c.find_heading-found.ensures _ _ c.read_lines.ensures
+returns c = under_heading (rw c.in-Some.is at c.find_heading.ensures) _ _ c.read_lines.ensures

@@ -4,30 +4,37 @@ use borrow.Author.Rules.{rules}
 use mir.Syntax.{w64}
 use mir.Val.{SFits}
 use mir.Facts.{to_z-of_z}
+use Rattle.std.specs.Prelude.{Ok}
 use Rattle.text.specs.Lines.{lines}
+use Rattle.line_parts.specs.Cells.{separator_of}
 use Rattle.heading_faults.specs.Faults.{heading_fault}
-use Rattle.heading_faults.specs.declared.FirstFault.TheVariants.{Nothing}
-use Rattle.triangle_text.specs.Reading.{lists_wanted, no_lists_read, of_heading}
-use Rattle.triangle_text.proofs.ListsRead.{text_short, faulty_headings, no_lists_wanted, lists_read}
+use Rattle.triangle_text.specs.Reading.{lists_wanted, without_mark}
+use Rattle.triangle_text.proofs.ListsRead.{text_short, faulty_headings, no_lists_wanted, lists_read, lists_within}
 use Rattle.triangle_text.proofs.reading.read_text.Goals as goal
-use Rattle.triangle_text.proofs.reading.read_text.Goals.{After-lists_wanted}
+use Rattle.triangle_text.proofs.reading.read_text.Goals.{After-new-text, After-lists_wanted}
+
+-- the text without its mark, and its separator
+text_is : (c : After-new-text) → c.new-text.result.bytes.now ≡ without_mark c.args.bytes.now
+text_is c = c.new-text.ensures.bytes ∙ c.without_mark.ensures
+
+parted : (c : After-new-text) → c.new-text.result.separator ≡ separator_of c.new-text.result.bytes.now
+parted c = c.new-text.ensures.separator ∙ ap separator_of (sym c.new-text.ensures.bytes)
 
 pub asked_in-asked-requires : goal.asked_in-asked-requires
-asked_in-asked-requires c = text_short _ _ c.without_mark-text.ensures c.requires
+asked_in-asked-requires c = text_short _ _ (text_is (goal.at.asked_in-asked-requires c).After-new-text) c.requires
 
 -- ---- The headings
 
-pub returns-in_default : goal.returns-in_default
-returns-in_default c =
-    let told = c.in_default.is in
-    faulty_headings c.args.bytes.now c.without_mark-text.result.now c.without_mark-text.ensures c.separator_of-separator.result c.separator_of-separator.ensures
-    c.asked_in-asked.ensures (sym c.first_fault-fault.ensures ∙ told)
-    (c.without_lists.ensures ∙ ap (λ fault. no_lists_read fault c.asked_in-asked.result) (c.heading_fault.ensures ∙ ap of_heading told))
+pub returns-in_err-first_fault-clause-read : goal.returns-in_err-first_fault-clause-read
+returns-in_err-first_fault-clause-read c =
+    let text = (goal.at.returns-in_err-first_fault-clause-read c).After-new-text in
+    faulty_headings c.args.bytes.now c.new-text.result.bytes.now (text_is text) c.new-text.result.separator (parted text)
+    (sym c.first_fault.ensures ∙ c.in_err-first_fault.was) (search rules)
 
 -- ---- The lists
 
-no_fault : (c : After-lists_wanted) → heading_fault c.separator_of-separator.result (lines c.without_mark-text.result.now) ≡ Nothing
-no_fault c = sym c.first_fault-fault.ensures ∙ c.in-Nothing.is
+no_fault : (c : After-lists_wanted) → heading_fault c.new-text.result.separator (lines c.new-text.result.bytes.now) ≡ Ok tt
+no_fault c = sym c.first_fault.ensures ∙ c.in_ok-first_fault.was
 
 told : (c : After-lists_wanted) → let asked = c.asked_in-asked.result in c.lists_wanted.result ≡ lists_wanted asked.years asked.cut
 told c =
@@ -37,17 +44,24 @@ told c =
     simp (to_z-of_z years, to_z-of_z cut) at c.lists_wanted.ensures
 
 pub read_lists-requires : goal.read_lists-requires
-read_lists-requires c =
-    (text_short _ _ c.without_mark-text.ensures c.requires, sym (told (goal.at.read_lists-requires c).After-lists_wanted) ∙ c.if-lists_wanted.true)
+read_lists-requires c = (
+  text_short _ _ (text_is (goal.at.read_lists-requires c).After-new-text) c.requires,
+  sym (told (goal.at.read_lists-requires c).After-lists_wanted) ∙ c.if-lists_wanted.true,
+)
 
-pub returns-then-lists_wanted : goal.returns-then-lists_wanted
-returns-then-lists_wanted c =
-    let asked = (goal.at.returns-then-lists_wanted c).After-lists_wanted in
-    lists_read c.args.bytes.now c.without_mark-text.result.now c.without_mark-text.ensures c.separator_of-separator.result c.separator_of-separator.ensures
+pub returns-then-lists_wanted-clause-read : goal.returns-then-lists_wanted-clause-read
+returns-then-lists_wanted-clause-read c =
+    let text = (goal.at.returns-then-lists_wanted-clause-read c).After-new-text in
+    let asked = (goal.at.returns-then-lists_wanted-clause-read c).After-lists_wanted in
+    lists_read c.args.bytes.now c.new-text.result.bytes.now (text_is text) c.new-text.result.separator (parted text)
     c.asked_in-asked.ensures (no_fault asked) (sym (told asked) ∙ c.if-lists_wanted.true) c.read_lists.ensures
 
-pub returns-else-lists_wanted : goal.returns-else-lists_wanted
-returns-else-lists_wanted c =
-    let asked = (goal.at.returns-else-lists_wanted c).After-lists_wanted in
-    no_lists_wanted c.args.bytes.now c.without_mark-text.result.now c.without_mark-text.ensures c.separator_of-separator.result c.separator_of-separator.ensures
-    c.asked_in-asked.ensures (no_fault asked) (sym (told asked) ∙ c.if-lists_wanted.false) c.without_lists-else-lists_wanted.ensures
+pub returns-then-lists_wanted-clause-within : goal.returns-then-lists_wanted-clause-within
+returns-then-lists_wanted-clause-within c = lists_within _ c.read_lists.result c.read_lists.ensures
+
+pub returns-else-lists_wanted-clause-read : goal.returns-else-lists_wanted-clause-read
+returns-else-lists_wanted-clause-read c =
+    let text = (goal.at.returns-else-lists_wanted-clause-read c).After-new-text in
+    let asked = (goal.at.returns-else-lists_wanted-clause-read c).After-lists_wanted in
+    no_lists_wanted c.args.bytes.now c.new-text.result.bytes.now (text_is text) c.new-text.result.separator (parted text)
+    c.asked_in-asked.ensures (no_fault asked) (sym (told asked) ∙ c.if-lists_wanted.false) (search rules)

@@ -1,17 +1,18 @@
 -- By whether the text has the heading of weights.
-use native.Mathlib.Omega.{arith}
+use mathlib.Core.Path.{sym, ap, ◌∙◌}
+use mathlib.Core.Bool.{not}
+use Rattle.triangle_text.proofs.Given.{given}
 use Rattle.triangle_text.proofs.BlocksUnder.{weights_given, weights_filled_in}
 use Rattle.triangle_text.proofs.reading.read_weights.Goals as goal
 
-pub returns-then-found-eq0 : goal.returns-then-found-eq0
-returns-then-found-eq0 c =
+pub returns-then-is_none : goal.returns-then-is_none
+returns-then-is_none c =
     let a = c.args in
-    let line = c.find_heading-found.ensures.line_is in
-    let answer = c.default_weights.ensures in
-    weights_filled_in a.separator _ a.rows a.cut _ _ (omega arith) answer.0 answer.1
+    let none = sym (given _ c.find_heading.ensures) ∙ c.is_none.ensures ∙ ap not c.if-is_none.true in
+    weights_filled_in a.text.separator _ a.n a.cut _ _ none c.default_weights.ensures.0 c.default_weights.ensures.1
 
 pub returns : goal.returns
 returns c =
     let a = c.args in
-    let line = c.find_heading-found.ensures.line_is in
-    weights_given a.separator _ a.rows a.cut _ _ (omega arith) c.read_triangle.ensures
+    let some = sym (given _ c.find_heading.ensures) ∙ c.is_none.ensures ∙ ap not c.if-is_none.false in
+    weights_given a.text.separator _ a.n a.cut _ _ some c.read_triangle.ensures

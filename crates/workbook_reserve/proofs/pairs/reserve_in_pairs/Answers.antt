@@ -1,19 +1,20 @@
--- The list is the first places of a local array.
-use mathlib.Core.Path.{◌∙◌}
-use Prim.Native.Nat.{◌/◌}
-use native.Mathlib.Omega.{arith}
-use lib.IntN.{pos}
-use lib.ListN.{length, replicate}
-use mir.Facts.{to_z-of_z}
-use Rattle.lists.proofs.Parts.{first_part_length}
+-- The whole answer of `reserve`, by way of the first places of a local array, and the pairs of its reserve list.
+use Rattle.std.proofs.Common.{◌≡◌, ◌*◌, ◌/◌, length, take, replicate, pos, refl, ◌∙◌, arith, nat_abs}
+use lib.Seq.{length-take-le}
+use Rattle.method.proofs.FirstRefusal.{not_both}
+use Rattle.verdicts.proofs.Refusals.{handed_on}
+use Rattle.workbook_reserve.proofs.Filled.{filled_by_answer}
 use Rattle.workbook_reserve.proofs.pairs.reserve_in_pairs.Goals as goal
+use Rattle.workbook_reserve.proofs.pairs.reserve_in_pairs.Goals.{Start}
 
-pub reserve_and_write-requires : goal.reserve_and_write-requires
-reserve_and_write-requires c =
-    let count = length c.args.pairs.now / 2 in
-    let long = first_part_length (replicate 96 (pos 0)) count (omega (arith, c.requires.0, c.requires.1)) in
-    simp (to_z-of_z c.ranges.years) (long ∙ omega (arith, c.requires.1), c.requires.1)
+-- the reserve list, of which the pairs are made
+reserves_long : (s : Start) → length (take (length s.args.pairs.now / 2) (replicate 96 (pos 0))) ≡ 3 * nat_abs s.args.triangle.years
+reserves_long s = length-take-le (length s.args.pairs.now / 2) (replicate 96 (pos 0)) (omega (arith, s.requires.0, s.requires.1)) ∙ omega (arith, s.requires.1)
+
+pub returns-in_err-reserve : goal.returns-in_err-reserve
+returns-in_err-reserve c =
+    rw (handed_on _ _ c.from_residual.ensures.1)
+    (filled_by_answer _ _ _ (reserves_long (goal.at.returns-in_err-reserve c).Start) c.in_err-reserve.ensures.whole (λ a. absurd (not_both a refl)))
 
 pub returns : goal.returns
-returns c =
-    simp (to_z-of_z c.ranges.years, to_z-of_z c.ranges.cut) at c.reserve_and_write.ensures
+returns c = filled_by_answer _ _ _ (reserves_long (goal.at.returns c).Start) c.in_ok-reserve.ensures.whole (λ a. c.write_pairs.ensures)

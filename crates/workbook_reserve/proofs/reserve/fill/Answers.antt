@@ -1,31 +1,23 @@
 -- Questions 1 to 4, and then the rest by way of two local arrays.
-use mathlib.Core.Path.{◌≡◌, sym, ap, ◌∙◌}
-use Prim.Native.Nat.{ℕ, ◌+◌, ◌≤◌}
-use native.Mathlib.Omega.{arith}
-use lib.IntN.{pos}
-use lib.ListN.{length, replicate}
-use mir.Facts.{to_z-of_z}
-use Rattle.lists.proofs.Parts.{first_part_length}
+use Rattle.std.proofs.Common.{◌≡◌, ℕ, ◌+◌, ◌≤◌, length, take, replicate, pos, sym, ap, ◌∙◌, arith}
+use lib.Seq.{length-take-le}
 use Rattle.method.specs.Verdicts.{accepted}
 use Rattle.verdicts.specs.Verdicts.{verdict_of}
 use Rattle.verdicts.proofs.Counts.{few_cells}
+use Rattle.verdicts.proofs.Refusals.{handed_on}
 use Rattle.workbook.specs.Workbook.{Workbook}
 use Rattle.workbook.specs.Questions.{n}
-use Rattle.workbook_reserve.specs.Workbooks.{workbook_of, questions_1_to_4}
+use Rattle.workbook_cells.specs.Lent.{workbook_of}
+use Rattle.workbook_reserve.specs.Workbooks.{questions_1_to_4}
 use Rattle.workbook_reserve.proofs.AllLengths.{years_right, lengths_right}
 use Rattle.workbook_reserve.proofs.Filled.{refused_before_cells}
 use Rattle.workbook_reserve.proofs.reserve.fill.Goals as goal
-use Rattle.workbook_reserve.proofs.reserve.fill.Goals.{After-questions_1_to_4-verdict, Start}
+use Rattle.workbook_reserve.proofs.reserve.fill.Goals.{In_ok-questions_1_to_4}
 
--- the workbook that is lent
-abbrev workbook : Start → Workbook
-workbook s = workbook_of s.args.years s.args.cut s.args.payment_kinds.now s.args.payments.now s.args.adjustment_kinds.now s.args.adjustments.now
-    s.args.weights.now s.args.openings.now
-
-first : (c : After-questions_1_to_4-verdict) → let a = c.args in
-    let b = workbook_of a.years a.cut a.payment_kinds.now a.payments.now a.adjustment_kinds.now a.adjustments.now a.weights.now a.openings.now in
-    verdict_of c.questions_1_to_4-verdict.result ≡ questions_1_to_4 b (length a.future.now) (length a.pairs.now)
-first c = simp (to_z-of_z c.ranges.years, to_z-of_z c.ranges.cut) at c.questions_1_to_4-verdict.ensures
+pub returns-in_err-questions_1_to_4 : goal.returns-in_err-questions_1_to_4
+returns-in_err-questions_1_to_4 c =
+    let refused = handed_on _ _ c.from_residual.ensures.1 in
+    refused_before_cells (workbook_of c.args.workbook) _ _ (refused ∙ sym (ap verdict_of c.in_err-questions_1_to_4.was) ∙ c.questions_1_to_4.ensures) refused
 
 -- there is room for every amount
 room : (b : Workbook) (f p : ℕ) → questions_1_to_4 b f p ≡ accepted → length b.payments.numbers ≤ 528
@@ -33,29 +25,30 @@ room b f p passed =
     let y = years_right b f p passed in
     omega (arith, (lengths_right b f p passed).payments, few_cells (n b) (n b + 1) y.most (omega (arith, y.most)))
 
-pub returns-in_default : goal.returns-in_default
-returns-in_default c =
-    let at = goal.at.returns-in_default c in
-    refused_before_cells (workbook at.Start) _ _ (first at.After-questions_1_to_4-verdict) (ap verdict_of c.in_default.is)
+module _ (c : In_ok-questions_1_to_4) where
+  abbrev count : ℕ
+  count = length c.args.workbook.payments.numbers.now
+
+  count-≤ : count ≤ 528
+  count-≤ = room (workbook_of c.args.workbook) _ _ (sym c.questions_1_to_4.ensures ∙ ap verdict_of c.in_ok-questions_1_to_4.was)
+
+  -- of either array
+  part_long : length (take count (replicate 528 (pos 0))) ≡ count
+  part_long = length-take-le count (replicate 528 (pos 0)) (omega (arith, count-≤))
 
 pub slice_bounds-paid-end : goal.slice_bounds-paid-end
-slice_bounds-paid-end c =
-    let at = goal.at.slice_bounds-paid-end c in
-    let passed = sym (first at.After-questions_1_to_4-verdict) ∙ ap verdict_of c.in-Accepted.is in
-    omega (arith, room (workbook at.Start) _ _ passed)
+slice_bounds-paid-end c = omega (arith, count-≤ (goal.at.slice_bounds-paid-end c).In_ok-questions_1_to_4)
+
+pub slice_bounds-convert_and_fill-end : goal.slice_bounds-convert_and_fill-end
+slice_bounds-convert_and_fill-end c = sym (part_long (goal.at.slice_bounds-convert_and_fill-end c).In_ok-questions_1_to_4)
 
 pub slice_bounds-adjusted-end : goal.slice_bounds-adjusted-end
-slice_bounds-adjusted-end c =
-    let at = goal.at.slice_bounds-adjusted-end c in
-    let passed = sym (first at.After-questions_1_to_4-verdict) ∙ ap verdict_of c.in-Accepted.is in
-    omega (arith, room (workbook at.Start) _ _ passed)
+slice_bounds-adjusted-end c = omega (arith, count-≤ (goal.at.slice_bounds-adjusted-end c).In_ok-questions_1_to_4)
 
-pub convert_and_fill-requires : goal.convert_and_fill-requires
-convert_and_fill-requires c =
-    let at = goal.at.convert_and_fill-requires c in
-    let passed = sym (first at.After-questions_1_to_4-verdict) ∙ ap verdict_of c.in-Accepted.is in
-    let long = first_part_length (replicate 528 (pos 0)) (length c.args.payments.now) (omega (arith, room (workbook at.Start) _ _ passed)) in
-    simp (to_z-of_z c.ranges.years, to_z-of_z c.ranges.cut) (record { pairs_value = passed; paid_len = (long, long) })
+pub slice_bounds-convert_and_fill-end-2 : goal.slice_bounds-convert_and_fill-end-2
+slice_bounds-convert_and_fill-end-2 c = sym (part_long (goal.at.slice_bounds-convert_and_fill-end-2 c).In_ok-questions_1_to_4)
 
-pub returns : goal.returns
-returns c = simp (to_z-of_z c.ranges.years, to_z-of_z c.ranges.cut) at c.convert_and_fill.ensures
+pub convert_and_fill-requires-clause-paid_len : goal.convert_and_fill-requires-clause-paid_len
+convert_and_fill-requires-clause-paid_len c =
+    let long = part_long (goal.at.convert_and_fill-requires-clause-paid_len c).In_ok-questions_1_to_4 in
+    (long, long)

@@ -1,8 +1,0 @@
--- By the test.
-use Rattle.heading_faults.proofs.check.Goals as goal
-
-pub returns-then-right : goal.returns-then-right
-returns-then-right c = rw c.if-right.true
-
-pub returns-else-right : goal.returns-else-right
-returns-else-right c = rw c.if-right.false

@@ -1,0 +1,46 @@
+// A triangle that questions 1 to 8 have accepted, prepared to be projected.
+ghost use Rattle.std.specs.Prelude.{◌≡◌, ℕ, ◌≤◌, pos, ◌≤ℤ◌, length};
+ghost use Rattle.method.specs.Limits.{most_accident_years, most_ratios, greatest_outstanding};
+ghost use Rattle.method.specs.Triangle.{entry};
+
+use crate::year::PreparedYear;
+use ratios::Development;
+use verdicts::limits::{ACCIDENT_YEARS, DEVELOPMENT_YEARS};
+
+// The prepared year k stands at k − 1, and the last observed outstanding of accident year i, in whole units, at i − 1.
+// Arrays of the largest size with n beside them, since the library uses no heap.
+#[derive(Clone, Copy)]
+pub struct PreparedTriangle {
+    pub n: usize,
+    pub years: [PreparedYear; DEVELOPMENT_YEARS],
+    pub outstandings: [i64; ACCIDENT_YEARS],
+    pub ghost years_long: { length years ≡ most_ratios },
+    pub ghost most: { n ≤ most_accident_years },
+    pub ghost outstandings_in_range: { (i : ℕ) → 1 ≤ i → i ≤ n → (pos 0 ≤ℤ entry outstandings i) × (entry outstandings i ≤ℤ greatest_outstanding) },
+}
+
+impl PreparedTriangle {
+    ghost use Rattle.prepared_years.specs.Prepared.{Preparable, Prepared, YearsKept};
+
+    // Before any triangle is prepared in it.
+    pub const EMPTY: PreparedTriangle = PreparedTriangle {
+        n: 0,
+        years: [PreparedYear::NONE; DEVELOPMENT_YEARS],
+        outstandings: [0; ACCIDENT_YEARS],
+    };
+
+    // Prepares every development year of a triangle; the places beyond are left as they are. It fills a value that is lent, since one that is returned is copied, all 2,496 bytes.
+    // Inlined, so that the outstandings are copied to where no call could have lent them too, by memcpy.
+    #[inline(always)]
+    pub fn prepare(&mut self, n: usize, development: &Development)
+        requires { Preparable n development.now.ratios development.now.outstandings }
+        ensures prepared { Prepared n development.now.ratios development.now.outstandings self.new }
+        ensures others { YearsKept n self.old.years self.new.years }
+    {
+        self.n = n;
+        self.outstandings = development.outstandings;
+        for k in 1..n {
+            self.years[k - 1] = PreparedYear::of(development.ratios[k - 1]);
+        }
+    }
+}

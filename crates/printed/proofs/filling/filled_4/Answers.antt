@@ -1,8 +1,0 @@
--- The numbers of the list are those that are given.
-use mir.Syntax.{w64}
-use mir.Facts.{to_z-of_z}
-use Rattle.printed.proofs.filling.filled_4.Goals as goal
-
-pub returns : goal.returns
-returns c =
-    simp (to_z-of_z {w = w64} c.ranges.first, to_z-of_z {w = w64} c.ranges.second, to_z-of_z {w = w64} c.ranges.third, to_z-of_z {w = w64} c.ranges.fourth) at c.filled.ensures

@@ -1,0 +1,17 @@
+// The width of a table's column.
+ghost use Rattle.std.specs.Prelude.{ℕ, ◌≤◌, ◌<◌};
+ghost use Rattle.printed.specs.Columns.{WidestOf};
+
+use std::ops::Range;
+
+// The largest of a first width and of those at some places.
+pub fn widest<F: Fn(usize) -> usize>(first: usize, places: Range<usize>, width: F) -> usize
+    requires { (place : ℕ) → places.start ≤ place → place < places.end → F.pre width place }
+    ensures { WidestOf (F.post width) first places.start places.end result }
+{
+    let mut column = first;
+    for place in places.start..places.end {
+        column = column.max(width(place));
+    }
+    column
+}
