@@ -5,7 +5,7 @@ ghost use Rattle.method.specs.Verdicts.{at, nowhere};
 ghost use Rattle.method.specs.Verdicts as meaning;
 ghost use Rattle.verdicts.specs.Verdicts.{number_of, refused_by, verdict_of};
 
-// An accident year and a development year; 0 where there is none.
+// An accident year and a development year; 0 where there is none, and no Option, since document 01's places and a host's answer have a 0 there.
 #[derive(Clone, Copy, PartialEq, Eq)]
 pub struct Place {
     pub accident_year: i64,
