@@ -35,3 +35,11 @@ pub fn future_length(n: usize) -> usize
 {
     3 * weights_length(n)
 }
+
+// Of the first r rows of a list whose rows have n, n − 1, … cells: where the next row begins.
+pub fn cells_before(n: usize, r: usize) -> usize
+    requires { (r ≤ n) × (n ≤ most_accident_years) }
+    ensures { result ≡ meaning.cells_before n r }
+{
+    amounts_length(n) - amounts_length(n - r)
+}
