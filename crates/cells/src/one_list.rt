@@ -49,7 +49,7 @@ pub fn weights_allowed(cut: usize, n: usize, list: &[i64]) -> Verdict
 
 // Whether x is an amount that cell (i, k) may hold.
 #[tactic(auto, unfolding(method::specs::Tests::amount_right))]
-fn amount_right(cut: usize, i: usize, k: usize, x: i64) -> bool
+pub fn amount_right(cut: usize, i: usize, k: usize, x: i64) -> bool
     requires { (i ≤ most_accident_years) × (k ≤ most_accident_years) }
     ensures { result ≡ amount_right cut i k x }
 {
