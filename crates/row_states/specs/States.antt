@@ -3,9 +3,7 @@ use Rattle.std.specs.Prelude.{ℕ, zero, suc, ◌+◌, ◌*◌, ◌≤◌, ◌<�
 use Rattle.method.specs.Limits.{one_unit, most_accident_years}
 use Rattle.share.specs.declared.millionths.Millionths.{Millionths}
 use Rattle.prepared_ratios.specs.Ratio.{greatest_size}
-use Rattle.prepared_years.specs.declared.triangle.PreparedTriangle.{PreparedTriangle}
 use Rattle.projection.specs.declared.Movement.{Movement}
-use Rattle.projection.specs.Year.{OutstandingInLimit}
 use Rattle.row_states.specs.declared.RowState.{RowState}
 
 -- no year is projected yet, and this outstanding, in whole units, was the last observed one
@@ -44,7 +42,7 @@ pub record YearAddable (s : RowState) (x : Movement) : Type 0 where
   pub incurred : FigureAddable s.incurred.0 x.adjustment.0
 
 -- the year after the projected ones of accident year i
-pub record YearToProject (t : PreparedTriangle) (i : ℕ) (s : RowState) : Type 0 where
-  pub last : i ≤ t.n
+pub record YearToProject (n i : ℕ) (s : RowState) : Type 0 where
+  pub last : i ≤ n
+  pub most : n ≤ most_accident_years
   pub more : s.projected + 1 < i
-  pub outstanding : OutstandingInLimit s.outstanding.0

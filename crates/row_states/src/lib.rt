@@ -1,15 +1,15 @@
 // The state of an accident year as it is projected, year by year.
 #![tactic(auto)]
 
-ghost use Rattle.std.specs.Prelude.{◌≡◌, ◌+◌, ◌-◌, ◌≤◌, ◌+ℤ◌};
-ghost use Rattle.method.specs.Triangle.{entry};
+ghost use Rattle.std.specs.Prelude.{◌≡◌, ◌+◌, ◌-◌, ◌<◌, pos, ◌+ℤ◌, ◌≤ℤ◌};
+ghost use Rattle.method.specs.Limits.{greatest_outstanding};
 ghost use Rattle.method.specs.ProjectedYear.{next_year};
-ghost use Rattle.ratios.specs.Ratios.{sums_at};
-ghost use Rattle.prepared_years.specs.Prepared.{ratios_of};
-ghost use Rattle.projection.specs.Year.{year_or_too_large};
+ghost use Rattle.ratios.specs.Ratios.{sums_of};
+ghost use Rattle.prepared_years.specs.Prepared.{year_sums};
+ghost use Rattle.projection.specs.Year.{OutstandingInLimit, year_or_too_large};
 ghost use Rattle.row_states.specs.States.{state_before, YearToProject, YearAddable, FigureAddable, with_year, first_of};
 
-use prepared_years::triangle::PreparedTriangle;
+use prepared_years::year::PreparedYear;
 use projection::{Movement, next_year};
 use share::millionths::Millionths;
 
@@ -25,12 +25,12 @@ pub struct RowState {
 }
 
 impl RowState {
-    // Accident year i before its first projected year.
-    pub fn first(triangle: &PreparedTriangle, i: usize) -> RowState
-        requires { (1 ≤ i) × (i ≤ triangle.now.n) }
-        ensures { result ≡ state_before (entry triangle.now.outstandings i) }
+    // An accident year before its first projected year, whose last observed outstanding is this, in whole units.
+    pub fn first(outstanding: i64) -> RowState
+        requires { (pos 0 ≤ℤ outstanding) × (outstanding ≤ℤ greatest_outstanding) }
+        ensures { result ≡ state_before outstanding }
     {
-        let outstanding = Millionths::from_units(triangle.outstandings[i - 1]);
+        let outstanding = Millionths::from_units(outstanding);
         RowState {
             projected: 0,
             outstanding,
@@ -40,18 +40,23 @@ impl RowState {
         }
     }
 
-    // The figures of the year that follows the projected ones of accident year i; `None` where one of them passes the limit of question 9:
-    // both shares are compared with it in `rounded_share`, the outstanding in `projection::next_year`.
-    // The ratios that lead from development year k to k + 1 stand at k − 1.
-    pub fn next_year(self, triangle: &PreparedTriangle, i: usize) -> Option<Movement>
-        requires { YearToProject triangle.now i self }
-        ensures { result ≡ year_or_too_large (next_year self.outstanding.0
-            (sums_at (ratios_of triangle.now.years) (triangle.now.n - i + (self.projected + 1)))) }
+    // Where the year stands that follows the projected ones of accident year i, among the n − 1 of a triangle:
+    // that of development year k, which leads to k + 1, at k − 1.
+    pub fn place_of_next_year(self, n: usize, i: usize) -> usize
+        requires { YearToProject n i self }
+        ensures place { result ≡ n - i + self.projected }
+        ensures inside { result + 1 < n }
     {
-        next_year(
-            self.outstanding,
-            triangle.years[triangle.n - i + self.projected],
-        )
+        n - i + self.projected
+    }
+
+    // The figures of the year that follows the projected ones, by its ratios; `None` where one of them passes the limit of question 9:
+    // both shares are compared with it in `rounded_share`, the outstanding in `projection::next_year`.
+    pub fn next_year(self, year: PreparedYear) -> Option<Movement>
+        requires { OutstandingInLimit self.outstanding.0 }
+        ensures { result ≡ year_or_too_large (next_year self.outstanding.0 (sums_of (year_sums year))) }
+    {
+        next_year(self.outstanding, year)
     }
 
     // The state with these figures of one year more.

@@ -8,7 +8,7 @@ use native.Mathlib.Nat.{add-zero}
 use native.Mathlib.Numerals.{add-one}
 use native.Mathlib.Omega.{arith}
 use lib.IntN.{ℤ, pos, ◌+ℤ◌, nat_abs, +ℤ_idr}
-use lib.ListN.{get_or-append}
+use lib.ListN.{get_or, get_or-append}
 use lib.Signed.{◌≤ℤ◌, le_z_yes}
 use Rattle.integers.proofs.RingSolver.{con, ◌:+◌, ◌:*◌, ◌:=◌, ring}
 use Rattle.integers.proofs.LinearFacts.{integers, ≤ℤ-by}
@@ -31,12 +31,13 @@ use Rattle.method.proofs.Projection.{next_nonneg}
 use Rattle.method.proofs.RunOff.{O_observed, O_projected}
 use Rattle.share.specs.declared.millionths.Millionths.{Millionths}
 use Rattle.prepared_ratios.specs.Ratio.{greatest_size}
-use Rattle.ratios.specs.Ratios.{sums_at}
+use Rattle.ratios.specs.Ratios.{sums_at, sums_of}
+use Rattle.prepared_years.specs.declared.year.PreparedYear.{PreparedYear}
 use Rattle.prepared_years.specs.declared.triangle.PreparedTriangle.{PreparedTriangle}
-use Rattle.prepared_years.specs.Prepared.{ratios_of}
-use Rattle.prepared_years.proofs.PreparedYears.{sums_in_range}
+use Rattle.prepared_years.specs.Prepared.{year_sums, ratios_of}
+use Rattle.prepared_years.proofs.PreparedYears.{sums_at_place, sums_in_range}
 use Rattle.projection.specs.declared.Movement.{Movement}
-use Rattle.projection.specs.Year.{year_or_too_large, movement_of}
+use Rattle.projection.specs.Year.{OutstandingInLimit, year_or_too_large, movement_of}
 use Rattle.projection.proofs.Years.{within_is, within_small}
 use Rattle.row_states.specs.declared.RowState.{RowState}
 use Rattle.row_states.specs.States.{state_before, first_of, with_year, YearAddable, YearToProject}
@@ -162,14 +163,13 @@ module _ (t : PreparedTriangle) {i : ℕ} (y : AccidentYear t.n i) where
             sum_size (λ x. x.adjustment) (λ x f. omega (arith, integers, f.adjustment)),
           ))
 
-      pub year_to_project : YearToProject t i s
-      year_to_project = record {
-        last = y.last;
-        more = omega (arith, projected_is);
-        outstanding = record {
-          nonneg = subst (λ (x : ℤ). pos 0 ≤ℤ x) (sym outstanding_is) here.0;
-          most = subst (λ (x : ℤ). x ≤ℤ greatest_figure) (sym outstanding_is) here.1;
-        };
+      pub year_to_project : YearToProject t.n i s
+      year_to_project = record { last = y.last; most = t.most; more = omega (arith, projected_is) }
+
+      pub outstanding_in_limit : OutstandingInLimit s.outstanding.0
+      outstanding_in_limit = record {
+        nonneg = subst (λ (x : ℤ). pos 0 ≤ℤ x) (sym outstanding_is) here.0;
+        most = subst (λ (x : ℤ). x ≤ℤ greatest_figure) (sym outstanding_is) here.1;
       }
         where
           here : InRange (O m i (last_observed m i + j))
@@ -183,14 +183,20 @@ module _ (t : PreparedTriangle) {i : ℕ} (y : AccidentYear t.n i) where
           ap (λ (x : ℕ). next_year s.outstanding.0 (sums_at (ratios_of t.years) (t.n - i + (x + 1)))) projected_is
           ∙ ap (λ (x : ℤ). next_year x (sums_at (ratios_of t.years) (t.n - i + (j + 1)))) (outstanding_is ∙ ap (O m i) e)
 
-      -- what is answered of it
-      module _ {answer : Option Movement} (is : answer ≡ year_or_too_large (next_year s.outstanding.0 (sums_at (ratios_of t.years) (t.n - i + (s.projected + 1))))) where
+      -- what is answered of the year at its place
+      module _ (none : PreparedYear) {place : ℕ} {answer : Option Movement} (at : place ≡ t.n - i + s.projected)
+          (is : answer ≡ year_or_too_large (next_year s.outstanding.0 (sums_of (year_sums (get_or t.years place none))))) where
+        answered : answer ≡ year_or_too_large (next_year s.outstanding.0 (sums_at (ratios_of t.years) (t.n - i + (s.projected + 1))))
+        answered =
+            is ∙ ap (λ x. year_or_too_large (next_year s.outstanding.0 x))
+            (sym (sums_at_place t.years place (t.n - i + (s.projected + 1)) none (omega (arith, at, y.last, t.most, projected_is, t.years_long)) (omega (arith, at))))
+
         pub too_large : answer ≡ None → None ≡ year_or_too_large (movement m i (year_before m i (j + 1)))
-        too_large told = sym told ∙ is ∙ ap year_or_too_large year_is
+        too_large told = sym told ∙ answered ∙ ap year_or_too_large year_is
 
         module _ {x : Movement} (told : answer ≡ Some x) where
           within : Some x ≡ year_or_too_large (next_year s.outstanding.0 (sums_at (ratios_of t.years) (t.n - i + (s.projected + 1))))
-          within = sym told ∙ is
+          within = sym told ∙ answered
 
           in_limits : figures_in_range (movement m i (year_before m i (j + 1))) ≡ true
           in_limits = ap figures_in_range (sym year_is) ∙ (within_is _ x within).1

@@ -75,9 +75,10 @@ pub fn project_row<D: Destination>(
     requires i_in_bounds { RoomFrom (D.start destination) (3 * (i - 1)) list.old }
     ensures { RowWritten (method_read triangle.now) i (D.start destination) list.old result list.new }
 {
-    let mut state = RowState::first(triangle, i);
+    let mut state = RowState::first(triangle.outstandings[i - 1]);
     for projected in 0..i - 1 {
-        let Some(movement) = state.next_year(triangle, i) else {
+        let year = triangle.years[state.place_of_next_year(triangle.n, i)];
+        let Some(movement) = state.next_year(year) else {
             let k = triangle.n - i + projected + 2;
             return Err(refusal_at(Question::ProjectedFigure, i, k));
         };

@@ -81,7 +81,7 @@ fn outstanding(triangle: &PreparedTriangle, i: usize, k: usize) -> Millionths
     ensures { result.0 ≡ O (method_read triangle.now) i k }
 {
     if i + k == triangle.n + 1 {
-        RowState::first(triangle, i).outstanding
+        RowState::first(triangle.outstandings[i - 1]).outstanding
     } else {
         movement(triangle, i, k).outstanding
     }

@@ -1,10 +1,8 @@
 -- Outstanding and movement call each other, the year falling.
-use borrow.Author.Rules.{rules}
-use native.Mathlib.Omega.{arith}
-use mathlib.Core.Path.{◌≡◌, refl, sym, ap, ◌∙◌}
-use Prim.Native.Nat.{ℕ, ◌-◌}
-use Rattle.std.proofs.Common.{Some}
+use Rattle.std.proofs.Common.{rules, ◌≡◌, ℕ, ◌-◌, pos, get_or, Some, refl, sym, ap, ◌∙◌, arith}
+use Rattle.integers.proofs.MachineArithmetic.{Held}
 use Rattle.method.specs.RunOff.{movement}
+use Rattle.method.proofs.Positions.{entry_place}
 use Rattle.prepared_years.proofs.PreparedYears.{sums_at_place}
 use Rattle.projection.specs.declared.Movement.{Movement}
 use Rattle.projection.specs.Year.{movement_of}
@@ -49,8 +47,21 @@ outstanding-movement-requires t c =
     let y = c.requires in
     (let m = c.decreases in search rules, (y, later_year y c.if-i-k.false))
 
+pub outstanding-first-requires : goal.outstanding-first-requires
+outstanding-first-requires t c =
+    let p = c.args.triangle.now in
+    let i = c.args.i in
+    let row = c.requires.row in
+    let read : Held (get_or p.outstandings (i - 1) (pos 0)) = search rules in
+    simp read (rw (entry_place p.outstandings i row.first) (p.outstandings_in_range i row.first row.last))
+
 pub outstanding-returns-then-i-k : goal.outstanding-returns-then-i-k
-outstanding-returns-then-i-k t c = ap (λ (s : RowState). s.outstanding.0) c.first.ensures ∙ last_observed_year c.requires c.if-i-k.true
+outstanding-returns-then-i-k t c =
+    let p = c.args.triangle.now in
+    let i = c.args.i in
+    let read : Held (get_or p.outstandings (i - 1) (pos 0)) = search rules in
+    let e = simp (entry_place p.outstandings i c.requires.row.first) at (simp read at c.first.ensures) in
+    ap (λ (s : RowState). s.outstanding.0) e ∙ last_observed_year c.requires c.if-i-k.true
 
 pub outstanding-returns-else-i-k : goal.outstanding-returns-else-i-k
 outstanding-returns-else-i-k t c =
