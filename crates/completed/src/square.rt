@@ -13,7 +13,7 @@ pub struct Cell {
 }
 
 // The cell of two years, where the square has one.
-pub fn cell_of(n: usize, accident_year: usize, development_year: usize) -> Option<Cell>
+pub fn cell_of_square(n: usize, accident_year: usize, development_year: usize) -> Option<Cell>
     requires { n ≤ most_accident_years }
     ensures { MatchOption result
         (¬ CellOfSquare n accident_year development_year)

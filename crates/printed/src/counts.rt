@@ -2,7 +2,7 @@
 ghost use Rattle.std.specs.Prelude.{◌≡◌};
 ghost use Rattle.printed.specs.Counts.{as_number};
 
-// A count as a number.
+// A count as a number: one chain of the library, under a contract in the words of the definitions.
 pub fn signed(count: usize) -> i64
     ensures { result ≡ as_number count }
 {

@@ -1,7 +1,5 @@
 // A line as its bytes, made from the left.
-ghost use Rattle.std.specs.Prelude.{[], ◌∷◌, replicate};
-ghost use Rattle.written_figures.specs.Writing.{space, whole_text};
-ghost use Rattle.printed.specs.Line.{LineIs, After};
+ghost use Rattle.std.specs.Prelude.{◌≤◌};
 
 use written_figures::writing::whole;
 
@@ -17,9 +15,14 @@ const SPACES: [u8; ROOM] = [b' '; ROOM];
 pub struct Line {
     pub bytes: [u8; ROOM],
     pub length: usize,
+    ghost in_room: { length ≤ 512 },
 }
 
 impl Line {
+    ghost use Rattle.std.specs.Prelude.{[], ◌∷◌, replicate};
+    ghost use Rattle.written_figures.specs.Writing.{space, whole_text};
+    ghost use Rattle.printed.specs.Line.{LineIs, After};
+
     #[tactic(auto, unfolding(crate::specs::Line::fitted))]
     pub fn empty() -> Line
         ensures { LineIs [] result }
@@ -41,7 +44,7 @@ impl Line {
     pub fn with_text(mut self, text: &[u8]) -> Line
         ensures { After self text.now result }
     {
-        let start = self.length.min(ROOM);
+        let start = self.length;
         let count = (ROOM - start).min(text.len());
         self.bytes[start..start + count].copy_from_slice(&text[..count]);
         self.length = start + count;

@@ -7,7 +7,7 @@ ghost use Rattle.refusals.specs.Found.{CellIn, OutstandingIn, FoundAt};
 
 use crate::counts::{count_of, count_or_0};
 use completed::outstanding::ObservedLists;
-use completed::square::cell_of;
+use completed::square::cell_of_square;
 use lent::Triangle;
 use verdicts::limits::{GREATEST_AMOUNT, from_to};
 use verdicts::verdict::Place;
@@ -55,7 +55,7 @@ fn cell_in(n: usize, list: &[i64], i: usize, k: usize) -> i64
     requires { n ≤ most_accident_years }
     ensures { CellIn n list.now i k result }
 {
-    cell_of(n, i, k).map_or(0, |cell| cell.number_in(list))
+    cell_of_square(n, i, k).map_or(0, |cell| cell.number_in(list))
 }
 
 // A match: as map_or with a closure, the proof of the outstanding's contract did not close, since the cell's years stand in a record there.
@@ -63,7 +63,7 @@ fn outstanding_in(n: usize, lists: ObservedLists<'_>, i: usize, k: usize) -> i64
     requires { n ≤ most_accident_years }
     ensures { OutstandingIn n lists.entry.payments.now lists.entry.adjustments.now lists.entry.openings.now i k result }
 {
-    match cell_of(n, i, k) {
+    match cell_of_square(n, i, k) {
         Some(cell) => lists.outstanding_at(cell),
         None => 0,
     }
