@@ -4,6 +4,7 @@ ghost use Rattle.completed.specs.Completed.{outstandings_of, OutstandingAt, Move
 
 use crate::square::Cell;
 use exact_sums::exact::{difference, sum};
+use lent::Triangle;
 use outstandings::opening_of;
 
 // The lists that an observed outstanding is made of.
@@ -12,6 +13,20 @@ pub struct ObservedLists<'a> {
     pub payments: &'a [i64],
     pub adjustments: &'a [i64],
     pub openings: &'a [i64],
+}
+
+impl<'a> From<Triangle<'a>> for ObservedLists<'a> {
+    ghost use Rattle.std.specs.Prelude.{◌≡◌};
+
+    ghost from_gives = { λ triangle lists. lists ≡ record { payments = triangle.payments; adjustments = triangle.adjustments; openings = triangle.openings } };
+
+    fn from(triangle: Triangle<'a>) -> ObservedLists<'a> {
+        ObservedLists {
+            payments: triangle.payments,
+            adjustments: triangle.adjustments,
+            openings: triangle.openings,
+        }
+    }
 }
 
 impl ObservedLists<'_> {

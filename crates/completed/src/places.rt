@@ -7,6 +7,7 @@ ghost use Rattle.completed.specs.Figures.{future_place, reserve_place};
 
 use crate::square::Cell;
 use lists::number_at;
+use verdicts::lengths::{cells_before, future_length};
 
 // The three figures of an unseen cell in the future list.
 #[derive(Clone, Copy)]
@@ -17,15 +18,11 @@ pub enum FutureFigure {
 }
 
 impl FutureFigure {
-    // Its place among the three, from 0 on.
+    // Its place among the three, from 0 on. The places of ReserveFigure are those of another list: a trait for both would be longer than the two.
     fn place(self) -> usize
         ensures { (result ≡ future_place self) × (result < 3) }
     {
-        match self {
-            FutureFigure::Payment => 0,
-            FutureFigure::Adjustment => 1,
-            FutureFigure::Outstanding => 2,
-        }
+        self as usize
     }
 }
 
@@ -42,11 +39,7 @@ impl ReserveFigure {
     fn place(self) -> usize
         ensures { (result ≡ reserve_place self) × (result < 3) }
     {
-        match self {
-            ReserveFigure::Paid => 0,
-            ReserveFigure::Incurred => 1,
-            ReserveFigure::Closing => 2,
-        }
+        self as usize
     }
 }
 
@@ -55,9 +48,7 @@ impl Cell {
     pub fn number_in(self, list: &[i64]) -> i64
         ensures { result ≡ cell (pos 0) self.n list.now self.accident_year self.development_year }
     {
-        // The row and the later ones end a list of its length.
-        let cells = self.n - self.accident_year + 1;
-        let start = self.n * (self.n + 1) / 2 - cells * (cells + 1) / 2;
+        let start = cells_before(self.n, self.accident_year - 1);
         number_at(list, start + (self.development_year - 1))
     }
 
@@ -66,11 +57,10 @@ impl Cell {
         requires { self.n + 1 < self.accident_year + self.development_year }
         ensures { result ≡ cell_figure self.n future.now (future_place figure) self.accident_year (self.development_year - 1) }
     {
-        // Row i of the future list has i − 1 cells, and so have those before it together (i − 1)(i − 2) / 2.
-        let cells = self.accident_year - 1;
-        let before = cells * (cells - 1) / 2;
-        let at = before + (self.accident_year + self.development_year - self.n - 2);
-        number_at(future, 3 * at + figure.place())
+        // The rows before it are as long as the future list of the accident years before its own.
+        let start = future_length(self.accident_year - 1);
+        let before = 3 * (self.accident_year + self.development_year - self.n - 2);
+        number_at(future, start + before + figure.place())
     }
 }
 

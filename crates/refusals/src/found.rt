@@ -1,15 +1,14 @@
 // What stands at the place of a refusal: the numbers that its sentence speaks of.
 ghost use Rattle.std.specs.Prelude.{◌≡◌, ◌≤◌};
 ghost use Rattle.method.specs.Limits.{most_accident_years};
-ghost use Rattle.method.specs.Tests.{amount_right};
 ghost use Rattle.refusals.specs.Counts.{count_of, count_or_0};
 ghost use Rattle.refusals.specs.Found.{CellIn, OutstandingIn, FoundAt};
 
 use crate::counts::{count_of, count_or_0};
+use cells::one_list::amount_right;
 use completed::outstanding::ObservedLists;
 use completed::square::cell_of_square;
 use lent::Triangle;
-use verdicts::limits::{GREATEST_AMOUNT, from_to};
 use verdicts::verdict::Place;
 
 // What stands at a place. The flags stand beside the numbers, and no enum holds one of them: each number is promised, whichever a sentence takes.
@@ -34,11 +33,7 @@ pub fn found_at(triangle: Triangle<'_>, place: Place) -> Found
     let cut = count_or_0(triangle.cut);
     let i = count_of(place.accident_year);
     let k = count_of(place.development_year);
-    let lists = ObservedLists {
-        payments: triangle.payments,
-        adjustments: triangle.adjustments,
-        openings: triangle.openings,
-    };
+    let lists = ObservedLists::from(triangle);
     let payment = cell_in(n, triangle.payments, i, k);
     Found {
         weight: cell_in(n.saturating_sub(1), triangle.weights, i, k),
@@ -67,12 +62,4 @@ fn outstanding_in(n: usize, lists: ObservedLists<'_>, i: usize, k: usize) -> i64
         Some(cell) => lists.outstanding_at(cell),
         None => 0,
     }
-}
-
-// Whether question 5 accepts an amount at cell (i, k).
-fn amount_right(cut: usize, i: usize, k: usize, amount: i64) -> bool
-    requires { (i ≤ most_accident_years) × (k ≤ most_accident_years) }
-    ensures { result ≡ amount_right cut i k amount }
-{
-    from_to(-GREATEST_AMOUNT, GREATEST_AMOUNT, amount) & (!(i + k <= cut) | (amount == 0))
 }

@@ -9,6 +9,7 @@ use lent::Triangle;
 use printed::counts::signed;
 use printed::filling::filled;
 use printed::line::Line;
+use verdicts::lengths::{amounts_length, weights_length};
 use verdicts::limits::{GREATEST_AMOUNT, from_to};
 use verdicts::verdict::Place;
 
@@ -27,14 +28,14 @@ pub(crate) fn lengths_sentence(triangle: Triangle<'_>) -> Line
     ensures { LineIs (meaning.lengths_sentence (triangle_of triangle.entry)) result }
 {
     let n = count_of(triangle.years);
-    let amounts = signed(n * (n + 1) / 2);
+    let amounts = signed(amounts_length(n));
     let numbers = [
         signed(triangle.payments.len()),
         amounts,
         signed(triangle.adjustments.len()),
         amounts,
         signed(triangle.weights.len()),
-        signed(n * n.saturating_sub(1) / 2),
+        signed(weights_length(n)),
         signed(triangle.openings.len()),
         signed(count_of(triangle.cut).saturating_sub(1)),
     ];

@@ -1,11 +1,9 @@
 // The call of the engine that a text asks for, and what is printed of its answer.
-ghost use Rattle.std.specs.Prelude.{◌≤◌};
-ghost use Rattle.method.specs.Limits.{most_accident_years};
-
 use crate::printing::{print_empty_line, print_line, print_two};
 use crate::refused::print_refusal;
 use crate::tables_of_answer::print_tables;
 use calls::reserve::reserve;
+use completed::places::FutureFigure;
 use lent::Triangle;
 use projection::Movement;
 use ratios::Development;
@@ -15,9 +13,11 @@ use std::io;
 use tables::accepted::{
     accepted_line, adjustments_line, openings_line, payments_line, weights_line,
 };
-use tables::one_cell::{CellFigure, cell_column, cell_line, cell_title};
+use tables::one_cell::{cell_column, cell_line, cell_title};
 use triangle::reading::read;
 use triangle_text::reading::{Asked, CellAsked};
+use verdicts::lengths::{WEIGHTED_CELLS, future_length};
+use verdicts::limits::ACCIDENT_YEARS;
 use verdicts::verdict::Refusal;
 
 // A text, what it asks for, and the triangle that was read from it.
@@ -50,11 +50,11 @@ fn print_cell(rt: &impl Print, asked: Asked, cell: CellAsked, figures: Movement)
     print_empty_line(rt)?;
     let column = cell_column(payment, adjustment, outstanding);
     let title = cell_title(cell.accident_year, cell.development_year);
-    print_two(rt, title, cell_line(CellFigure::Payment, payment, column))?;
+    print_two(rt, title, cell_line(FutureFigure::Payment, payment, column))?;
     print_two(
         rt,
-        cell_line(CellFigure::Adjustment, adjustment, column),
-        cell_line(CellFigure::Outstanding, outstanding, column),
+        cell_line(FutureFigure::Adjustment, adjustment, column),
+        cell_line(FutureFigure::Outstanding, outstanding, column),
     )
 }
 
@@ -77,10 +77,10 @@ fn print_accepted(rt: &impl Print, asked: Asked) -> io::Result<()> {
     }
 }
 
-// Room for the answer lists of the largest triangle, and more.
-const FUTURE_FIGURES: usize = 1584;
+// Room for the answer lists of the largest triangle.
+const FUTURE_FIGURES: usize = 3 * WEIGHTED_CELLS;
 
-const RESERVE_FIGURES: usize = 96;
+const RESERVE_FIGURES: usize = 3 * ACCIDENT_YEARS;
 
 // Makes the two answer lists, of the lengths that an accepted call wants.
 fn call_reserve(rt: &impl Print, read: ReadText<'_, '_>) -> io::Result<()> {
@@ -106,12 +106,4 @@ fn answered(
 ) -> Result<Development, Refusal> {
     reserve(triangle, future, reserves)?;
     read(triangle, None)
-}
-
-// Three figures for each unseen cell.
-fn future_length(n: usize) -> usize
-    requires { n ≤ most_accident_years }
-    ensures { result ≤ 1584 }
-{
-    3 * (n * n.saturating_sub(1) / 2)
 }

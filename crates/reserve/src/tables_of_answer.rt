@@ -25,11 +25,7 @@ pub(crate) fn print_tables<'a>(
     let outstandings = development.outstandings;
     let lists = CompletedLists {
         cut: count_of(triangle.cut),
-        observed: ObservedLists {
-            payments: triangle.payments,
-            adjustments: triangle.adjustments,
-            openings: triangle.openings,
-        },
+        observed: ObservedLists::from(triangle),
         future,
     };
     print_reserves(

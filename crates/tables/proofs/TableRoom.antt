@@ -16,8 +16,8 @@ use Rattle.printed.proofs.Widths.{widest_within}
 use Rattle.tables.specs.SumsRows.{sums_width, sums_column, sums_heading, from_year, sums_row}
 use Rattle.tables.specs.Accepted.{accepted_line}
 use Rattle.tables.specs.OneCell.{cell_title, cell_column, figure_name, cell_line}
-use Rattle.tables.specs.declared.one_cell.CellFigure.{CellFigure}
-use Rattle.tables.specs.declared.one_cell.CellFigure.TheVariants.{Payment, Adjustment, Outstanding}
+use Rattle.completed.specs.declared.places.FutureFigure.{FutureFigure}
+use Rattle.completed.specs.declared.places.FutureFigure.TheVariants.{Payment, Adjustment, Outstanding}
 
 -- ---- The sums of the ratios
 
@@ -65,7 +65,7 @@ sums_row_fits ratios k column narrow =
 
 -- ---- One cell alone
 
-name_length : (figure : CellFigure) → length (figure_name figure) ≤ 11
+name_length : (figure : FutureFigure) → length (figure_name figure) ≤ 11
 name_length Payment = omega arith
 name_length Adjustment = omega arith
 name_length Outstanding = omega arith
@@ -74,7 +74,7 @@ pub cell_column_most : (payment adjustment outstanding : ℤ) → cell_column pa
 unfolding cell_column
 cell_column_most payment adjustment outstanding = omega (arith, amount_length payment, amount_length adjustment, amount_length outstanding)
 
-pub cell_line_fits : (figure : CellFigure) (millionths : ℤ) (column : ℕ) → column ≤ 35 → length (cell_line figure millionths column) ≤ 511
+pub cell_line_fits : (figure : FutureFigure) (millionths : ℤ) (column : ℕ) → column ≤ 35 → length (cell_line figure millionths column) ≤ 511
 unfolding cell_line
 cell_line_fits figure millionths column narrow =
     omega (

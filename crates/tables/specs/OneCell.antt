@@ -4,8 +4,8 @@ use Rattle.figures.specs.Bytes.{bytes}
 use Rattle.written_figures.specs.Writing.{amount_text}
 use Rattle.printed.specs.Filling.{filled}
 use Rattle.printed.specs.Entries.{entry}
-use Rattle.tables.specs.declared.one_cell.CellFigure.{CellFigure}
-use Rattle.tables.specs.declared.one_cell.CellFigure.TheVariants.{Payment, Adjustment, Outstanding}
+use Rattle.completed.specs.declared.places.FutureFigure.{FutureFigure}
+use Rattle.completed.specs.declared.places.FutureFigure.TheVariants.{Payment, Adjustment, Outstanding}
 
 abbrev pub cell_title : ℤ → ℤ → List ℕ
 cell_title accident_year development_year =
@@ -16,11 +16,11 @@ unfoldable pub cell_column : ℤ → ℤ → ℤ → ℕ
 cell_column payment adjustment outstanding =
     max (max (length (amount_text payment)) (length (amount_text adjustment))) (length (amount_text outstanding))
 
-abbrev pub figure_name : CellFigure → List ℕ
+abbrev pub figure_name : FutureFigure → List ℕ
 figure_name Payment = bytes "    payment"
 figure_name Adjustment = bytes " adjustment"
 figure_name Outstanding = bytes "outstanding"
 
 -- A figure after its name, in millionths.
-unfoldable pub cell_line : CellFigure → ℤ → ℕ → List ℕ
+unfoldable pub cell_line : FutureFigure → ℤ → ℕ → List ℕ
 cell_line figure millionths column = figure_name figure ++ entry column (amount_text millionths)

@@ -3,17 +3,10 @@ ghost use Rattle.std.specs.Prelude.{◌≡◌};
 ghost use Rattle.printed.specs.Line.{LineIs};
 ghost use Rattle.tables.specs.OneCell as meaning;
 
+use completed::places::FutureFigure;
 use printed::filling::filled;
 use printed::line::Line;
 use written_figures::writing::amount;
-
-// The three figures of a cell.
-#[derive(Clone, Copy)]
-pub enum CellFigure {
-    Payment,
-    Adjustment,
-    Outstanding,
-}
 
 pub fn cell_title(accident_year: i64, development_year: i64) -> Line
     ensures { LineIs (meaning.cell_title accident_year development_year) result }
@@ -35,18 +28,18 @@ pub fn cell_column(payment: i64, adjustment: i64, outstanding: i64) -> usize
 }
 
 // One of the figures after its name, in millionths.
-pub fn cell_line(figure: CellFigure, millionths: i64, column: usize) -> Line
+pub fn cell_line(figure: FutureFigure, millionths: i64, column: usize) -> Line
     ensures { LineIs (meaning.cell_line figure millionths column) result }
 {
     figure_name(figure).with_entry(amount(millionths).text(), column)
 }
 
-fn figure_name(figure: CellFigure) -> Line
+fn figure_name(figure: FutureFigure) -> Line
     ensures { LineIs (meaning.figure_name figure) result }
 {
     match figure {
-        CellFigure::Payment => Line::of(b"    payment"),
-        CellFigure::Adjustment => Line::of(b" adjustment"),
-        CellFigure::Outstanding => Line::of(b"outstanding"),
+        FutureFigure::Payment => Line::of(b"    payment"),
+        FutureFigure::Adjustment => Line::of(b" adjustment"),
+        FutureFigure::Outstanding => Line::of(b"outstanding"),
     }
 }

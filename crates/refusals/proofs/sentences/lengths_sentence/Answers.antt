@@ -1,6 +1,5 @@
 -- The numbers are the lengths, each with the one that is wanted.
 use mathlib.Core.Path.{ap, ◌∙◌}
-use Prim.Native.Nat.{◌*◌, ◌/◌}
 use native.Mathlib.Omega.{arith}
 use Rattle.integers.proofs.MachineArithmetic.{held}
 use Rattle.printed.specs.Counts.{as_number}
@@ -13,8 +12,9 @@ returns c =
     let triangle = c.args.triangle in
     let n_is = simp (held triangle.years (omega arith)) at c.count_of-n.ensures.0 in
     let cut_is = simp (held triangle.cut (omega arith)) at c.count_of.ensures.0 in
-    let weights_is = c.signed-4.ensures ∙ ap (λ m. as_number (c.count_of-n.result * m / 2)) c.saturating_sub.ensures in
-    let openings_is = c.signed-6.ensures ∙ ap as_number c.saturating_sub-2.ensures in
+    let amounts_is = c.signed-amounts.ensures ∙ ap as_number c.amounts_length.ensures in
+    let weights_is = c.signed-4.ensures ∙ ap as_number c.weights_length.ensures in
+    let openings_is = c.signed-6.ensures ∙ ap as_number c.saturating_sub.ensures in
     let numbers = simp (
       held c.signed-amounts.result c.signed-amounts.type_inv,
       held c.signed.result c.signed.type_inv,
@@ -27,7 +27,7 @@ returns c =
     rw (
       ← n_is,
       ← cut_is,
-      ← c.signed-amounts.ensures,
+      ← amounts_is,
       ← c.signed.ensures,
       ← c.signed-2.ensures,
       ← c.signed-3.ensures,

@@ -7,5 +7,5 @@ use Rattle.completed.proofs.square.Cell.figure_in.Goals as goal
 
 pub returns : goal.returns
 returns c =
-    held c.number_at.result c.number_at.type_inv ∙ rw c.place.ensures.0 at c.number_at.ensures
+    held c.number_at.result c.number_at.type_inv ∙ rw (c.future_length-start.ensures, c.place.ensures.0) at c.number_at.ensures
     ∙ future_figure_at_place c.args.self.inside c.requires (future_place c.args.figure) c.args.future.now
