@@ -9,7 +9,7 @@ use lib.ListN.{get_or}
 use Rattle.method.specs.Limits.{most_accident_years}
 use Rattle.method.specs.Triangle.{amounts_length, cells_before, cell}
 use Rattle.method.specs.Verdicts.{Verdict, at, ask, first_to, each_in_row}
-use Rattle.method.proofs.Positions.{cells_before_more, cell_inside, cell_at}
+use Rattle.method.proofs.Positions.{cell_inside, cell_at}
 use Rattle.verdicts.proofs.Counts.{few_cells}
 
 -- the verdict on cell (i, k)
@@ -22,9 +22,6 @@ unfolding each_in_row
 row_is n question test r h =
     let e : n - r ≡ n + 1 - (r + 1) = omega arith in
     ap (λ (x : ℕ). first_to x (cell_verdict question test (r + 1))) e
-
-pub next_row_start : (n start r : ℕ) → start ≡ cells_before n r → start + (n - r) ≡ cells_before n (r + 1)
-next_row_start n start r e = rw add-one (omega (arith, e, cells_before_more n r))
 
 -- a cell stands inside its list, which is short
 pub place_inside : (n r j : ℕ) → n ≤ most_accident_years → r + j < n

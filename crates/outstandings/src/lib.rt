@@ -11,6 +11,7 @@ ghost use Rattle.verdicts.specs.Verdicts.{verdict_of};
 ghost use Rattle.outstandings.specs.Observed.{AmountsRight, Movable};
 
 use lists::number_at;
+use verdicts::lengths::cells_before;
 use verdicts::limits::{GREATEST_OUTSTANDING, from_to};
 use verdicts::verdict::{Question, Verdict, asked_at};
 
@@ -26,8 +27,8 @@ pub fn question_6<'a>(
     requires { AmountsRight n cut payments.now adjustments.now openings.now }
     ensures { (weights : List ℤ) → verdict_of result ≡ question_6 (counted n cut payments.now adjustments.now weights openings.now) }
 {
-    let mut start = 0;
     for r in 0..n {
+        let start = cells_before(n, r);
         let mut outstanding = opening_of(openings, r);
         for j in 0..n - r {
             let at = start + j;
@@ -35,7 +36,6 @@ pub fn question_6<'a>(
             let in_range = outstanding_in_range(cut, r + 1, j + 1, outstanding);
             asked_at(in_range, Question::OutstandingInRange, r + 1, j + 1)?;
         }
-        start += n - r;
     }
     Ok(())
 }

@@ -30,9 +30,6 @@ module _ (sum weight amount : ℤ) (h : Summable sum weight amount) where
   term_small : nat_abs (weight *ℤ amount) ≤ greatest_term
   term_small = term_size weight amount h.weight_size h.amount_size
 
-  pub so_far_fits : SFits w64 sum
-  so_far_fits = fits_nat_abs w64 sum greatest_sum h.sum_size (lit< tt)
-
   pub term_fits : SFits w64 (weight *ℤ amount)
   term_fits = fits_nat_abs w64 (weight *ℤ amount) greatest_term term_small (lit< tt)
 

@@ -7,6 +7,7 @@ ghost use Rattle.ratios.specs.Ratios.{Readable, DevelopmentRead, FirstYear, Firs
 
 use lent::Triangle;
 use outstandings::{next_outstanding, opening_of};
+use verdicts::lengths::cells_before;
 use verdicts::limits::{ACCIDENT_YEARS, DEVELOPMENT_YEARS};
 
 // The sums of a development year k, over the accident years i from 1 to n − k.
@@ -57,14 +58,13 @@ fn first_outstandings(n: usize, triangle: Triangle<'_>) -> [i64; ACCIDENT_YEARS]
     ensures { FirstOutstandings n triangle.entry.payments.now triangle.entry.adjustments.now triangle.entry.openings.now result }
 {
     let mut outstandings = [0; ACCIDENT_YEARS];
-    let mut start = 0;
     for r in 0..n {
+        let start = cells_before(n, r);
         outstandings[r] = next_outstanding(
             opening_of(triangle.openings, r),
             triangle.payments[start],
             triangle.adjustments[start],
         );
-        start += n - r;
     }
     outstandings
 }

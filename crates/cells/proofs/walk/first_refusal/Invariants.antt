@@ -1,6 +1,5 @@
 -- A walk through the cells, row by row.
-use Rattle.std.proofs.Common.{◌≡◌, Bool, ℕ, ◌+◌, ◌-◌}
-use Rattle.method.specs.Triangle.{cells_before}
+use Rattle.std.proofs.Common.{Bool, ℕ, ◌+◌, ◌-◌}
 use Rattle.method.specs.Verdicts.{each_in_row}
 use Rattle.method.proofs.FirstRefusal.{PassedSoFar}
 use Rattle.verdicts.specs.Verdicts.{number_of}
@@ -9,10 +8,9 @@ use Rattle.cells.proofs.CellWalk.{cell_verdict}
 use Rattle.cells.proofs.walk.first_refusal.Given as goal
 
 abbrev pub invariant-loop-r : goal.invariant-loop-r
-invariant-loop-r g l = record {
-  start_is : l.start ≡ cells_before l.n l.r;
-  so_far : (test : ℕ → ℕ → Bool) → Answers l.n (goal.F-post g l.passes) test → PassedSoFar l.n (each_in_row l.n (number_of l.question) test) l.r;
-}
+invariant-loop-r g l =
+    (test : ℕ → ℕ → Bool) → Answers l.n (goal.F-post g l.passes) test
+    → PassedSoFar l.n (each_in_row l.n (number_of l.question) test) l.r
 
 abbrev pub invariant-loop-j : goal.invariant-loop-j
 invariant-loop-j g l =
