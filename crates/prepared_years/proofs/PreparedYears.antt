@@ -1,5 +1,5 @@
 -- Development years prepared one after another, and the sums that they were prepared from.
-use Rattle.std.proofs.Common.{◌≡◌, List, [], ◌∷◌, ℕ, ◌+◌, ◌-◌, ◌≤◌, ◌<◌, ℤ, length, get_or, sym, ap, subst, ◌∙◌, arith, length-set}
+use Rattle.std.proofs.Common.{◌≡◌, List, [], ◌∷◌, ℕ, ◌+◌, ◌-◌, ◌≤◌, ◌<◌, length, get_or, sym, ap, subst, ◌∙◌, arith, length-set}
 use Rattle.std.proofs.Math.ListN.{set}
 use Rattle.std.proofs.lemmas.List.{get_or-map, get_or-set_other, length-map, map-set}
 use Rattle.lists.proofs.Places.{one_more_place}
@@ -11,12 +11,10 @@ use Rattle.prepared_years.specs.declared.triangle.PreparedTriangle.{PreparedTria
 use Rattle.prepared_years.specs.Prepared.{year_sums, ratios_of, YearsKept}
 
 -- the years before development year k are prepared
-pub record PreparedTo (n : ℕ) (ratios : List Sums) (outstandings : List ℤ) (before : List PreparedYear) (t : PreparedTriangle) (k : ℕ) : Type 0 where
+pub record PreparedTo (n : ℕ) (ratios : List Sums) (before after : List PreparedYear) (k : ℕ) : Type 0 where
   pub within : k - 1 ≤ n - 1
-  pub kept : YearsKept k before t.years
-  pub n_is : t.n ≡ n
-  pub outstandings_are : t.outstandings ≡ outstandings
-  pub year : (j : ℕ) → j < k - 1 → get_or (ratios_of t.years) j no_sums ≡ get_or ratios j no_sums
+  pub kept : YearsKept k before after
+  pub year : (j : ℕ) → j < k - 1 → get_or (ratios_of after) j no_sums ≡ get_or ratios j no_sums
 
 -- with one year more, at k − 1
 pub one_more_year : (ratios : List Sums) (years : List PreparedYear) (k : ℕ) (y : PreparedYear) → k - 1 < length years → 1 ≤ k

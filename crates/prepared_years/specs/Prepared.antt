@@ -21,19 +21,28 @@ year_sums y = record {
 abbrev pub ratios_of : List PreparedYear → List Sums
 ratios_of years = map year_sums years
 
--- as questions 1 to 8 leave a triangle's ratios and last observed outstandings
-pub record Preparable (n : ℕ) (ratios : List Sums) (outstandings : List ℤ) : Type 0 where
+-- a triangle's ratios, as questions 1 to 8 leave them
+pub record RatiosInRange (n : ℕ) (ratios : List Sums) : Type 0 where
   pub most : n ≤ most_accident_years
   pub year : (j : ℕ) → j + 1 < n → SumsInRange (sums_of (get_or ratios j no_sums))
-  pub outstanding : (i : ℕ) → 1 ≤ i → i ≤ n → (pos 0 ≤ℤ entry outstandings i) × (entry outstandings i ≤ℤ greatest_outstanding)
 
--- every year of the triangle, prepared from its ratios
-pub record Prepared (n : ℕ) (ratios : List Sums) (outstandings : List ℤ) (t : PreparedTriangle) : Type 0 where
-  pub n_is : t.n ≡ n
-  pub outstandings_are : t.outstandings ≡ outstandings
-  pub year : (j : ℕ) → j + 1 < n → get_or (ratios_of t.years) j no_sums ≡ get_or ratios j no_sums
+-- and its last observed outstandings
+pub record Preparable (n : ℕ) (ratios : List Sums) (outstandings : List ℤ) : Type 0 where
+  pub ratios_in_range : RatiosInRange n ratios
+  pub outstanding : (i : ℕ) → 1 ≤ i → i ≤ n → (pos 0 ≤ℤ entry outstandings i) × (entry outstandings i ≤ℤ greatest_outstanding)
 
 -- the places beyond the years of a triangle, as they were
 pub record YearsKept (n : ℕ) (before after : List PreparedYear) : Type 0 where
   pub same_length : length after ≡ length before
   pub others : (j : ℕ) (none : PreparedYear) → n ≤ j + 1 → get_or after j none ≡ get_or before j none
+
+-- every year of a triangle prepared from its ratios, and the other places as they were
+pub record YearsPrepared (n : ℕ) (ratios : List Sums) (before after : List PreparedYear) : Type 0 where
+  pub kept : YearsKept n before after
+  pub year : (j : ℕ) → j + 1 < n → get_or (ratios_of after) j no_sums ≡ get_or ratios j no_sums
+
+-- the triangle of these ratios and outstandings
+pub record Prepared (n : ℕ) (ratios : List Sums) (outstandings : List ℤ) (t : PreparedTriangle) : Type 0 where
+  pub n_is : t.n ≡ n
+  pub outstandings_are : t.outstandings ≡ outstandings
+  pub year : (j : ℕ) → j + 1 < n → get_or (ratios_of t.years) j no_sums ≡ get_or ratios j no_sums

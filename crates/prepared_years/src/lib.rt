@@ -3,3 +3,4 @@
 
 pub mod triangle;
 pub mod year;
+pub mod years;

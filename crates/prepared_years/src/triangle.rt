@@ -4,6 +4,7 @@ ghost use Rattle.method.specs.Limits.{most_accident_years, most_ratios, greatest
 ghost use Rattle.method.specs.Triangle.{entry};
 
 use crate::year::PreparedYear;
+use crate::years::prepare_years;
 use ratios::Development;
 use verdicts::limits::{ACCIDENT_YEARS, DEVELOPMENT_YEARS};
 
@@ -29,7 +30,7 @@ impl PreparedTriangle {
         outstandings: [0; ACCIDENT_YEARS],
     };
 
-    // Prepares every development year of a triangle; the places beyond are left as they are. It fills a value that is lent, since one that is returned is copied, all 2,496 bytes.
+    // Prepares a triangle in the place of the one before. It fills a value that is lent, since one that is returned is copied whole.
     // Inlined, so that the outstandings are copied to where no call could have lent them too, by memcpy.
     #[inline(always)]
     pub fn prepare(&mut self, n: usize, development: &Development)
@@ -39,8 +40,6 @@ impl PreparedTriangle {
     {
         self.n = n;
         self.outstandings = development.outstandings;
-        for k in 1..n {
-            self.years[k - 1] = PreparedYear::of(development.ratios[k - 1]);
-        }
+        prepare_years(n, &development.ratios, &mut self.years);
     }
 }

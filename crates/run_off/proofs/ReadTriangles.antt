@@ -57,8 +57,7 @@ module _ {t : Triangle} {ratios : List Sums} {outstandings : List ℤ} (d : Deve
 
     preparable : Preparable (n t) ratios outstandings
     preparable = record {
-      most = ok.years.most;
-      year = λ j h. rw (d.year j h) (sums_right (j + 1) (omega arith) h);
+      ratios_in_range = record { most = ok.years.most; year = λ j h. rw (d.year j h) (sums_right (j + 1) (omega arith) h) };
       outstanding = λ i first last. rw (outstanding_read i first last) (R_in_range t ok i (last_observed (method t) i) first (omega arith));
     }
 
