@@ -26,40 +26,34 @@ use Rattle.run_off.proofs.RowAnswers.{row_list_length, figures_in_place, reserve
 use Rattle.calls.specs.Answers.{RowsProjected}
 
 -- after r rows
-pub record RowsSoFar (m : Method) (future_list reserve_list : List ℤ) (place r : ℕ) : Type 0 where
+pub record RowsSoFar (m : Method) (future_list reserve_list : List ℤ) (r : ℕ) : Type 0 where
   pub asked : PassedSoFar m.years (question_9_of_year m) r
-  pub place_is : place ≡ 3 * unseen_before (suc r)
   pub future_whole : length future_list ≡ future_length m.years
   pub reserves_whole : length reserve_list ≡ reserves_length m.years
-  pub future_filled : take place future_list ≡ list_to r (future_row m)
+  pub future_filled : take (future_length r) future_list ≡ list_to r (future_row m)
   pub reserves_filled : take (3 * r) reserve_list ≡ list_to r (reserves_row m)
 
--- the places before the first row and after all rows
-none_unseen : unseen_before 1 ≡ 0
-unfolding unseen_before
-none_unseen = refl
-
-all_cells : (n : ℕ) → 3 * unseen_before (suc n) ≡ future_length n
-all_cells n = ap (λ (x : ℕ). 3 * x) (unseen_cells n)
+-- the first r rows have 3 figures for each of their cells
+rows_length : (r : ℕ) → 3 * unseen_before (suc r) ≡ future_length r
+rows_length r = ap (λ (x : ℕ). 3 * x) (unseen_cells r)
 
 module _ {m : Method} {future_list reserve_list : List ℤ} where
-  pub no_row_projected : length future_list ≡ future_length m.years → length reserve_list ≡ reserves_length m.years → RowsSoFar m future_list reserve_list 0 0
+  pub no_row_projected : length future_list ≡ future_length m.years → length reserve_list ≡ reserves_length m.years → RowsSoFar m future_list reserve_list 0
   no_row_projected f r = record {
     asked = none_asked _ _;
-    place_is = sym (ap (λ (x : ℕ). 3 * x) none_unseen);
     future_whole = f;
     reserves_whole = r;
     future_filled = sym (up_to_none ◌++◌ [] _);
     reserves_filled = sym (up_to_none ◌++◌ [] _);
   }
 
-  module _ {place r : ℕ} (s : RowsSoFar m future_list reserve_list place r) where
-    module _ (more : r < m.years) where
-      next_place : place + 3 * r ≡ 3 * unseen_before (suc (suc r))
-      next_place = omega (arith, s.place_is, unseen_before_more (suc r))
+  module _ {r : ℕ} (s : RowsSoFar m future_list reserve_list r) where
+    module _ (more : r < m.years) {place : ℕ} (place_is : place ≡ future_length r) where
+      next_place : place + 3 * r ≡ future_length (suc r)
+      next_place = omega (arith, place_is, rows_length r, rows_length (suc r), unseen_before_more (suc r))
 
       pub future_room : place + 3 * (r + 1 - 1) ≤ length future_list
-      future_room = omega (arith, next_place, s.future_whole, all_cells m.years, unseen_before_mono (suc (suc r)) (suc m.years) (omega arith))
+      future_room = omega (arith, next_place, s.future_whole, rows_length (suc r), rows_length m.years, unseen_before_mono (suc (suc r)) (suc m.years) (omega arith))
 
       pub reserves_room : 3 * r + 3 ≤ length reserve_list
       reserves_room = omega (arith, s.reserves_whole)
@@ -88,13 +82,12 @@ module _ {m : Method} {future_list reserve_list : List ℤ} where
             ap (λ (x : ℕ). take x (sets reserve_list (3 * r) three)) f ∙ sets_filled three reserve_list (3 * r) reserves_room
             ∙ ap (λ (xs : List ℤ). take (3 * r) reserve_list ++ xs) (reserves_answered w ∙ ap (reserves_row m) (add-one r))
 
-        pub next_row : RowsSoFar m after (sets reserve_list (3 * r) three) (place + 3 * r) (r + 1)
-        next_row = subst (RowsSoFar m after (sets reserve_list (3 * r) three) (place + 3 * r)) (sym (add-one r)) (record {
+        pub next_row : RowsSoFar m after (sets reserve_list (3 * r) three) (r + 1)
+        next_row = subst (RowsSoFar m after (sets reserve_list (3 * r) three)) (sym (add-one r)) (record {
           asked = subst (PassedSoFar m.years (question_9_of_year m)) (add-one r) (next_accepted s.asked more (sym w.answered.verdict_is));
-          place_is = next_place;
           future_whole = row_list_length w ∙ s.future_whole;
           reserves_whole = length-sets reserve_list (3 * r) three ∙ s.reserves_whole;
-          future_filled = figures_written ∙ ap (λ (xs : List ℤ). xs ++ future_row m (suc r)) s.future_filled ∙ sym (up_to_more ◌++◌ [] r (future_row m));
+          future_filled = ap (λ (x : ℕ). take x after) (sym next_place) ∙ figures_written ∙ ap (λ (x : ℕ). take x future_list ++ future_row m (suc r)) place_is ∙ ap (λ (xs : List ℤ). xs ++ future_row m (suc r)) s.future_filled ∙ sym (up_to_more ◌++◌ [] r (future_row m));
           reserves_filled = reserves_written ∙ ap (λ (xs : List ℤ). xs ++ reserves_row m (suc r)) s.reserves_filled ∙ sym (up_to_more ◌++◌ [] r (reserves_row m));
         })
 
@@ -102,10 +95,10 @@ module _ {m : Method} {future_list reserve_list : List ℤ} where
     unfolding question_9 future reserves
     all_rows h =
         let e : r ≡ m.years = omega (arith, s.asked.within) in
-        let p : length future_list ≤ place = omega (arith, s.future_whole, s.place_is, all_cells m.years, ap (λ (x : ℕ). unseen_before (suc x)) e) in
+        let p : length future_list ≤ future_length r = omega (arith, s.future_whole, ap future_length e) in
         let q : length reserve_list ≤ 3 * r = omega (arith, s.reserves_whole) in
         record {
           verdict_is = sym (all_accepted s.asked h);
-          future_is = λ _. sym (take_all place future_list p) ∙ s.future_filled ∙ ap (λ (x : ℕ). list_to x (future_row m)) e;
+          future_is = λ _. sym (take_all (future_length r) future_list p) ∙ s.future_filled ∙ ap (λ (x : ℕ). list_to x (future_row m)) e;
           reserves_are = λ _. sym (take_all (3 * r) reserve_list q) ∙ s.reserves_filled ∙ ap (λ (x : ℕ). list_to x (reserves_row m)) e;
         }

@@ -8,6 +8,7 @@ ghost use Rattle.calls.specs.Answers.{RowsProjected};
 use lists::write_three;
 use prepared_years::triangle::PreparedTriangle;
 use run_off::rows::{IntoList, project_row};
+use verdicts::lengths::future_length;
 use verdicts::verdict::Verdict;
 
 // Projects every accident year: its figures into the future list, its reserves into the reserve list.
@@ -20,11 +21,9 @@ pub(crate) fn project(
     requires { (length future.old ≡ future_length triangle.now.n) × (length reserves.old ≡ reserves_length triangle.now.n) }
     ensures { RowsProjected (method_read triangle.now) (verdict_of result) future.new reserves.new }
 {
-    let mut future_at = 0;
     for r in 0..triangle.n {
-        let row = project_row(triangle, r + 1, future, IntoList(future_at))?;
+        let row = project_row(triangle, r + 1, future, IntoList(future_length(r)))?;
         write_three(reserves, 3 * r, row.paid.0, row.incurred.0, row.closing.0);
-        future_at += 3 * r;
     }
     Ok(())
 }

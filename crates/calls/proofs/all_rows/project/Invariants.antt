@@ -4,4 +4,4 @@ use Rattle.calls.proofs.RowsLoop.{RowsSoFar}
 use Rattle.calls.proofs.all_rows.project.Given as goal
 
 abbrev pub invariant-loop-r : goal.invariant-loop-r
-invariant-loop-r l = RowsSoFar (method_read l.triangle) l.future l.reserves l.future_at l.r
+invariant-loop-r l = RowsSoFar (method_read l.triangle) l.future l.reserves l.r
