@@ -15,7 +15,7 @@ use crate::all_rows::project;
 use lent::{AnswerLengths, Triangle};
 use prepared_years::triangle::PreparedTriangle;
 use ratios::Development;
-use run_off::reading::{NOTHING_READ, read_into};
+use triangle::reading::{NOTHING_READ, read_into};
 use verdicts::verdict::Verdict;
 
 // The verdict of questions 1 to 9. Where they accept, the future list and the reserve list are document 01's; else both hold zeros throughout.

@@ -1,4 +1,3 @@
 -- What the contracts of this crate say, in the words of the crate `method`.
 pub mod MethodRead
-pub mod Reading
 pub mod Rows

@@ -21,9 +21,9 @@ use prepared_years::triangle::PreparedTriangle;
 use projection::{Movement, next_year};
 use ratios::Development;
 use row_states::RowState;
-use run_off::reading::{NOTHING_READ, read_into};
 use run_off::rows::question_9;
 use share::millionths::Millionths;
+use triangle::reading::{NOTHING_READ, read_into};
 use verdicts::limits::from_to;
 use verdicts::verdict::{Question, Refusal, asked};
 

@@ -1,5 +1,5 @@
 -- What reading a triangle answers.
-use Rattle.std.specs.Prelude.{◌≡◌, List, ℕ, ◌-◌, pos, get_or, Option, Result, IfOk}
+use Rattle.std.specs.Prelude.{◌≡◌, List, ℕ, ◌-◌, pos, get_or, Option, Result, Ok, Err, IfOk}
 use Rattle.std.specs.Int.Signed.{lt_z}
 use Rattle.method.specs.Triangle.{Triangle}
 use Rattle.method.specs.Verdicts.{Verdict, at, ask, first_to}
@@ -16,6 +16,11 @@ use Rattle.ratios.specs.Ratios.{no_sums, DevelopmentOf}
 pub record ReadingOf (t : Triangle) (answers : Option AnswerLengths) (r : Result Development Refusal) : Type 0 where
   pub verdict_is : verdict_of r ≡ observed_questions t (lists_right t answers)
   pub development_is : IfOk r (λ d. DevelopmentOf t d.ratios d.outstandings)
+
+-- the same in a development that is lent: what was read, or what stood there before and the refusal
+abbrev pub ReadInto : Triangle → Option AnswerLengths → Development → Result (Unit {0}) Refusal → Development → Type 0
+ReadInto t answers before (Ok _) after = ReadingOf t answers (Ok after)
+ReadInto t answers before (Err refusal) after = ReadingOf t answers (Err refusal) × (after ≡ before)
 
 -- ---- Question 8 of the ratios of development years 1 to n − 1
 

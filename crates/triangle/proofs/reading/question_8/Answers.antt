@@ -11,9 +11,9 @@ use Rattle.triangle.proofs.reading.question_8.Goals as goal
 use Rattle.triangle.proofs.reading.question_8.Goals.{After-asked_at}
 
 -- the year at hand, as document 01 asks of it
-asked : (c : After-asked_at) → verdict_of c.asked_at.result ≡ exposure_of_year c.args.ratios c.loop-k.k
+asked : (c : After-asked_at) → verdict_of c.asked_at.result ≡ exposure_of_year c.args.ratios.now c.loop-k.k
 unfolding exposure_of_year
-asked c = let exposure : Held (get_or c.args.ratios (c.loop-k.k - 1) no_sums).exposure = search rules in simp exposure at c.asked_at.ensures
+asked c = let exposure : Held (get_or c.args.ratios.now (c.loop-k.k - 1) no_sums).exposure = search rules in simp exposure at c.asked_at.ensures
 
 pub loop-k-init : goal.loop-k-init
 loop-k-init c = none_asked _ _

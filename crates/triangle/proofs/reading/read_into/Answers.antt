@@ -1,7 +1,7 @@
 -- What was read, stored.
 use mathlib.Core.Path.{refl}
 use Rattle.std.proofs.lemmas.Result.{err_from_is_err_and}
-use Rattle.run_off.proofs.reading.read_into.Goals as goal
+use Rattle.triangle.proofs.reading.read_into.Goals as goal
 
 pub returns-in_err-development : goal.returns-in_err-development
 returns-in_err-development c =
