@@ -9,11 +9,12 @@ ghost use Rattle.verdicts.specs.Verdicts.{verdict_of};
 ghost use Rattle.list_lengths.specs.Lengths.{answers_right, list_lengths_right, questions_1_to_3};
 
 use lent::AnswerLengths;
+use verdicts::lengths::{amounts_length, future_length, weights_length};
 use verdicts::limits::from_to;
 use verdicts::verdict::{Question, Verdict, asked};
 use verdicts::years::question_1;
 
-// The lengths of all lists that a call lends.
+// The lengths of all lists that a call lends. Kept as numbers and no lists: they are compared before any list may be read.
 #[derive(Clone, Copy, PartialEq, Eq)]
 pub struct ListLengths {
     pub payments: usize,
@@ -41,16 +42,16 @@ fn question_2(years: i64, cut: i64) -> Verdict
     asked(from_to(1, years - 1, cut), Question::Cut)
 }
 
-// Whether every list has its length.
-#[tactic(auto, using(verdicts::proofs::Counts::few_cells), unfolding(method::specs::Questions::question_3, crate::specs::Lengths::list_lengths_right))]
+// Whether every list has its length. n and the cut stay beside the lengths, with what is asked of them: a struct of the three would be made for this one call.
+#[tactic(auto, unfolding(method::specs::Questions::question_3, crate::specs::Lengths::list_lengths_right))]
 fn question_3(n: usize, cut: usize, lengths: ListLengths) -> Verdict
-    requires { (1 ≤ n) × (n ≤ most_accident_years) × (1 ≤ cut) }
+    requires { (n ≤ most_accident_years) × (1 ≤ cut) }
     ensures { verdict_of result ≡ question_3 (list_lengths_right n cut lengths) }
 {
-    let amounts = n * (n + 1) / 2;
+    let amounts = amounts_length(n);
     let right = (lengths.payments == amounts)
         & (lengths.adjustments == amounts)
-        & (lengths.weights == n * (n - 1) / 2)
+        & (lengths.weights == weights_length(n))
         & (lengths.openings == cut - 1)
         & answers_right(n, lengths.answers);
     asked(right, Question::Lengths)
@@ -58,8 +59,8 @@ fn question_3(n: usize, cut: usize, lengths: ListLengths) -> Verdict
 
 // Whether the answer lists that are lent have their lengths.
 fn answers_right(n: usize, answers: Option<AnswerLengths>) -> bool
-    requires { (1 ≤ n) × (n ≤ most_accident_years) }
+    requires { n ≤ most_accident_years }
     ensures { result ≡ answers_right n answers }
 {
-    answers.is_none_or(|lent| (lent.future == 3 * (n * (n - 1) / 2)) & (lent.reserves == 3 * n))
+    answers.is_none_or(|lent| (lent.future == future_length(n)) & (lent.reserves == 3 * n))
 }

@@ -19,7 +19,7 @@ pub fn write_pairs(amounts: &[i64], list: &mut [f64])
     requires { length list.old ≡ 2 * length amounts.now }
     ensures { list.new ≡ pairs amounts.now }
 {
-    // By places, and no zip with the list's chunks: after that nothing is known of what the list holds.
+    // By places: a zip of the amounts with the list's chunks was tried, and its proof did not close, since nothing is known of what the list holds after it.
     for (j, amount) in amounts.iter().enumerate() {
         let Pair { units, millionths } = pair_of(*amount);
         list[2 * j] = units;

@@ -1,38 +1,21 @@
--- A row handed back: where it begins, counted from the end of its list, and the answer accepted or refused.
-use mathlib.Core.Path.{◌≡◌, refl, sym, ap, ap₂}
+-- A row handed back: that it ends inside its list, and the answer accepted or refused.
+use mathlib.Core.Path.{◌≡◌, refl, sym, ap}
 use mathlib.Core.List.{List, []}
-use Prim.Native.Nat.{ℕ, ◌+◌, ◌*◌, ◌-◌, ◌/◌, ◌≤◌}
+use Prim.Native.Nat.{ℕ, ◌+◌, ◌-◌, ◌≤◌}
 use native.Mathlib.Omega.{arith}
 use lib.IntN.{ℤ, nat_abs}
 use lib.ListN.{length, take, drop}
 use Rattle.method.specs.Triangle.{cells_before}
 use Rattle.method.specs.Verdicts.{Place, accepted, refused}
 use Rattle.method.specs.Answers.{Amounts, payments, adjustments, named_list, row_verdict, row_of, row}
-use Rattle.method.proofs.Positions.{cells_before_is, row_inside}
+use Rattle.method.proofs.Positions.{row_inside}
 use Rattle.method.proofs.Rows.{RowAccepted, row_accepted, named_length}
+use Rattle.verdicts.proofs.Counts.{few_cells}
 use Rattle.rows.specs.Rows.{RowInside, ListInMemory, named_of}
 
-module _ (xs : List ℤ) (n i : ℕ) (h : RowInside xs n i) where
-  -- the row's cells, and the place at which it begins
-  abbrev cells : ℕ
-  cells = n - i + 1
-
-  abbrev start : ℕ
-  start = length xs - cells * (cells + 1) / 2
-
-  pub from_end : (cells_before n (i - 1) ≡ start) × (cells * (cells + 1) / 2 ≤ length xs)
-  from_end = omega (arith, cells_before_is n (i - 1) cells (omega (arith, h.first, h.last)), h.long)
-
-  pub rest_inside : cells * (cells + 1) / 2 ≤ length xs
-  rest_inside = from_end.1
-
-  pub end_inside : start + cells ≤ length xs
-  end_inside = omega (arith, from_end.0, row_inside n (i - 1) (omega (arith, h.first, h.last)), h.long, h.first)
-
-  pub part_is : take (start + cells - start) (drop start xs) ≡ take (n + 1 - i) (drop (cells_before n (i - 1)) xs)
-  part_is =
-      let e : start + cells - start ≡ n + 1 - i = omega (arith, h.last) in
-      ap₂ (λ (a b : ℕ). take a (drop b xs)) e (sym from_end.0)
+pub ends_inside : {xs : List ℤ} {n i : ℕ} → RowInside xs n i → (cells_before n (i - 1) + (n + 1 - i) ≤ length xs) × (length xs ≤ 528)
+ends_inside {xs} {n} {i} h =
+    (omega (arith, row_inside n (i - 1) (omega (arith, h.first, h.last)), h.long, h.first), omega (arith, few_cells n (n + 1) h.most (omega (arith, h.most)), h.long))
 
 -- what the list that is named holds
 pub named_holds : (payment_list adjustment_list : ListInMemory) (named : Amounts)

@@ -9,6 +9,7 @@ ghost use Rattle.method.specs.Demand1.{Demand1OfRow};
 ghost use Rattle.verdicts.specs.Verdicts.{verdict_of};
 ghost use Rattle.rows.specs.Rows.{amounts_of, RowInside, OwnPart, named_of, RowReturned};
 
+use verdicts::lengths::{amounts_length, cells_before};
 use verdicts::limits::from_to;
 use verdicts::verdict::{Question, Verdict, asked};
 use verdicts::years::question_1;
@@ -40,16 +41,14 @@ pub fn row<'a>(
 }
 
 // Row i of a list whose rows have n, n − 1, … cells.
+#[tactic(auto, using(crate::proofs::RowParts::ends_inside))]
 fn row_of<'a>(list: &'a [i64], n: usize, i: usize) -> &'a [i64]
     requires { RowInside list.now n i }
     ensures result_value { result.now ≡ take (n + 1 - i) (drop (cells_before n (i - 1)) list.now) }
     ensures own_part { OwnPart list.entry (cells_before n (i - 1)) result }
 {
-    // The row and the later ones end the list.
-    let later = n - i;
-    let cells = later + 1;
-    let start = list.len() - cells * (cells + 1) / 2;
-    let end = start + cells;
+    let start = cells_before(n, i - 1);
+    let end = start + (n + 1 - i);
     &list[start..end]
 }
 
@@ -70,12 +69,12 @@ pub fn row_verdict<'a>(
     asked(from_to(1, years, accident_year), Question::YearsAsked)
 }
 
-#[tactic(auto, using(verdicts::proofs::Counts::few_cells), unfolding(method::specs::Answers::both_lengths_right))]
+#[tactic(auto, unfolding(method::specs::Answers::both_lengths_right))]
 fn both_lengths_right<'a>(n: usize, payments: &'a [i64], adjustments: &'a [i64]) -> bool
     requires { n ≤ most_accident_years }
     ensures { result ≡ meaning.both_lengths_right (pos n) payments.now adjustments.now }
 {
-    let amounts = n * (n + 1) / 2;
+    let amounts = amounts_length(n);
     (payments.len() == amounts) & (adjustments.len() == amounts)
 }
 

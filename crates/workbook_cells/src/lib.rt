@@ -28,7 +28,7 @@ pub fn convert(cells: WorkbookCells<'_>, amounts: &mut [i64]) -> bool
 {
     let WorkbookCells { kinds, numbers } = cells;
     let mut all = true;
-    // Kinds and numbers by places, and no zip with the amounts: after that nothing is known of what they hold.
+    // By places: a zip of the amounts with the cells was tried, and its proof did not close, since nothing is known of what they hold after it.
     for (j, amount) in amounts.iter_mut().enumerate() {
         let kind = kinds[j];
         let whole = amount_of(cell_of(kind, numbers[j]));

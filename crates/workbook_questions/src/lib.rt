@@ -19,6 +19,7 @@ use workbook_cells::{amount_of, cell_of};
 
 // The first refusal of questions 11 to 13, if there is one.
 // `convertible` says whether every cell could be converted, so that 11 and 12 need not be asked: they are, to find number and place, only where one could not.
+// Kept as no Option: no value lies beside it.
 pub fn questions_11_to_13(
     n: usize,
     cut: usize,

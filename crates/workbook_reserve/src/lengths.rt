@@ -7,10 +7,11 @@ ghost use Rattle.workbook_reserve.specs.Workbooks.{other_lengths_right, question
 
 use list_lengths::{ListLengths, questions_1_to_3};
 use questions::list_questions::question_4;
+use verdicts::lengths::{amounts_length, future_length};
 use verdicts::verdict::{Question, Verdict, asked};
 use workbook_cells::lent_workbook::Workbook;
 
-// The lengths of the lists that the filling call of document 01 does not read.
+// The lengths of the lists that the filling call of document 01 does not read. Kept as numbers and no lists: they are compared before any list may be read.
 #[derive(Clone, Copy)]
 pub struct OtherLengths {
     pub payment_kinds: usize,
@@ -43,12 +44,12 @@ pub(crate) fn questions_1_to_4(workbook: Workbook<'_>, future: usize, pairs: usi
 }
 
 fn other_lengths_right(n: usize, others: OtherLengths) -> bool
-    requires { (1 ≤ n) × (n ≤ most_accident_years) }
+    requires { n ≤ most_accident_years }
     ensures { result ≡ other_lengths_right n others }
 {
-    let amounts = n * (n + 1) / 2;
+    let amounts = amounts_length(n);
     (others.payment_kinds == amounts)
         & (others.adjustment_kinds == amounts)
-        & (others.future == 3 * (n * (n - 1) / 2))
+        & (others.future == future_length(n))
         & (others.pairs == 6 * n)
 }

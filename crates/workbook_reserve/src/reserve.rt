@@ -11,14 +11,11 @@ ghost use Rattle.workbook_reserve.specs.Workbooks.{workbook_answer_of, questions
 use crate::lengths::questions_1_to_4;
 use crate::pairs::reserve_in_pairs;
 use lent::Triangle;
-use verdicts::limits::ACCIDENT_YEARS;
+use verdicts::lengths::SEEN_CELLS;
 use verdicts::verdict::Verdict;
 use workbook_cells::convert;
 use workbook_cells::lent_workbook::Workbook;
 use workbook_questions::questions_11_to_13;
-
-// Room for the amounts of every seen cell.
-const AMOUNTS: usize = ACCIDENT_YEARS * (ACCIDENT_YEARS + 1) / 2;
 
 // The verdict of questions 1 to 4, 11 to 13 and 5 to 9. Where they accept, the future list is that of the converted triangle, and the list of pairs holds
 // its reserve list as pairs of floats; else both hold zeros throughout, and no minus zero.
@@ -44,8 +41,8 @@ fn fill(workbook: Workbook<'_>, future: &mut [i64], pairs: &mut [f64]) -> Verdic
         (verdict_of result) future.new pairs.new }
 {
     questions_1_to_4(workbook, future.len(), pairs.len())?;
-    let mut paid = [0i64; AMOUNTS];
-    let mut adjusted = [0i64; AMOUNTS];
+    let mut paid = [0i64; SEEN_CELLS];
+    let mut adjusted = [0i64; SEEN_CELLS];
     let count = workbook.payments.numbers.len();
     convert_and_fill(
         workbook,

@@ -45,8 +45,7 @@ overflow_cast-n c =
 pub other_lengths_right-requires : goal.other_lengths_right-requires
 other_lengths_right-requires c =
     let here = goal.at.other_lengths_right-requires c in
-    let y = years here.In_ok-questions_1_to_3 in
-    simp (held here.After-questions_1_to_3).0 (omega (arith, y.fewest), y.most)
+    simp (held here.After-questions_1_to_3).0 (years here.In_ok-questions_1_to_3).most
 
 others : (c : After-asked) → let b = workbook_of c.args.workbook in verdict_of c.asked.result ≡ question_3 (other_lengths_right (n b) (lengths_besides b c.args.future c.args.pairs))
 unfolding question_3
