@@ -5,7 +5,6 @@ ghost use Rattle.std.specs.Prelude.{◌≡◌, ◌≤◌, eqb};
 ghost use Rattle.std.specs.Bool.{beq};
 ghost use Rattle.method.specs.Limits.{most_accident_years};
 ghost use Rattle.method.specs.Triangle.{missing};
-ghost use Rattle.method.specs.Verdicts.{◌then◌};
 ghost use Rattle.verdicts.specs.Verdicts.{verdict_of};
 ghost use Rattle.workbook.specs.Cells.{workbook_cell, whole_or_blank};
 ghost use Rattle.workbook.specs.Questions.{kinds_known, numbers_whole, blanks_missing};
@@ -20,6 +19,7 @@ use workbook_cells::{amount_of, cell_of};
 // The first refusal of questions 11 to 13, if there is one.
 // `convertible` says whether every cell could be converted, so that 11 and 12 need not be asked: they are, to find number and place, only where one could not.
 // Kept as no Option: no value lies beside it.
+#[tactic(auto, using(crate::proofs::Convertible::convertible_accepted, method::proofs::FirstRefusal::then_goes_on, method::proofs::FirstRefusal::then_stops, verdicts::proofs::Refusals::handed_on))]
 pub fn questions_11_to_13(
     n: usize,
     cut: usize,
@@ -36,29 +36,14 @@ pub fn questions_11_to_13(
         n,
         cells: adjustments,
     };
-    questions_11_and_12(convertible, payments, adjustments)?;
+    if !convertible {
+        payments.kinds_known()?;
+        adjustments.kinds_known()?;
+        payments.numbers_whole()?;
+        adjustments.numbers_whole()?;
+    }
     payments.blanks_missing(cut)?;
     adjustments.blanks_missing(cut)
-}
-
-fn questions_11_and_12(
-    convertible: bool,
-    payments: SeenCells<'_>,
-    adjustments: SeenCells<'_>,
-) -> Verdict
-    requires { convertible ≡ both_convertible (cells_of payments.cells) (cells_of adjustments.cells) }
-    ensures { verdict_of result
-        ≡ ((kinds_known payments.entry.n (cells_of payments.entry.cells) then kinds_known adjustments.entry.n (cells_of adjustments.entry.cells))
-        then numbers_whole payments.entry.n (cells_of payments.entry.cells)
-        then numbers_whole adjustments.entry.n (cells_of adjustments.entry.cells)) }
-{
-    if convertible {
-        return Ok(());
-    }
-    payments.kinds_known()?;
-    adjustments.kinds_known()?;
-    payments.numbers_whole()?;
-    adjustments.numbers_whole()
 }
 
 // The cells of a list as questions 1 to 3 leave it: a kind byte and a float for every seen cell of n accident years.
