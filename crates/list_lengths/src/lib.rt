@@ -26,6 +26,7 @@ pub struct ListLengths {
 }
 
 // The first refusal of questions 1 to 3, if there is one. No length is formed of an n or a cut that is out of range.
+#[tactic(auto, using(method::proofs::FirstRefusal::then_goes_on, method::proofs::FirstRefusal::then_stops, method::proofs::QuestionFacts::years_accepted, method::proofs::QuestionFacts::cut_accepted, verdicts::proofs::Refusals::handed_on))]
 pub fn questions_1_to_3(years: i64, cut: i64, lengths: ListLengths) -> Verdict
     ensures { verdict_of result ≡ questions_1_to_3 years cut lengths }
 {
