@@ -24,7 +24,7 @@ use Rattle.lent.specs.declared.AnswerLengths.{AnswerLengths}
 use Rattle.ratios.specs.declared.Development.{Development}
 use Rattle.triangle.specs.Reading.{ReadingOf}
 use Rattle.prepared_years.specs.declared.triangle.PreparedTriangle.{PreparedTriangle}
-use Rattle.prepared_years.specs.Prepared.{Prepared}
+use Rattle.prepared_years.specs.PreparedTriangles.{Prepared}
 use Rattle.run_off.specs.MethodRead.{method_read}
 use Rattle.run_off.proofs.ReadTriangles.{PreparedOf, accepted_reading, prepared_reading, lists_whole, with_question_9, future_as_in_the_triangle, reserves_as_in_the_triangle}
 use Rattle.calls.specs.Answers.{answer_of, RowsProjected, Filled}

@@ -49,7 +49,7 @@ fn fill(triangle: Triangle<'_>, future: &mut [i64], reserves: &mut [i64]) -> Ver
     fill_accepted(triangle, &development, future, reserves)
 }
 
-// The same for a triangle that questions 1 to 8 have accepted. It stays a call of its own, so that its 4,500 bytes of stack are not taken while a triangle is read.
+// The same for a triangle that questions 1 to 8 have accepted. It stays a call of its own, so that its stack is not taken while a triangle is read.
 #[inline(never)]
 fn fill_accepted(
     triangle: Triangle<'_>,

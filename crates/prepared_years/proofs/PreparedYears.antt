@@ -1,8 +1,9 @@
 -- Development years prepared one after another, and the sums that they were prepared from.
-use Rattle.std.proofs.Common.{◌≡◌, List, [], ◌∷◌, ℕ, ◌+◌, ◌-◌, ◌≤◌, ◌<◌, length, get_or, sym, ap, subst, ◌∙◌, arith, length-set}
+use Rattle.std.proofs.Common.{◌≡◌, List, [], ◌∷◌, ℕ, ◌+◌, ◌-◌, ◌≤◌, ◌<◌, pos, ◌<ℤ◌, length, get_or, sym, ap, subst, ◌∙◌, arith, length-set}
 use Rattle.std.proofs.Math.ListN.{set}
 use Rattle.std.proofs.lemmas.List.{get_or-map, get_or-set_other, length-map, map-set}
 use Rattle.lists.proofs.Places.{one_more_place}
+use Rattle.integers.proofs.LinearFacts.{integers}
 use Rattle.method.specs.SumLimits.{SumsInRange}
 use Rattle.ratios.specs.declared.Sums.{Sums}
 use Rattle.ratios.specs.Ratios.{no_sums, sums_at, sums_of}
@@ -45,10 +46,19 @@ sums_at_place years j k d inside e =
     ap (λ (x : ℕ). sums_of (get_or (ratios_of years) x no_sums)) p ∙ ap sums_of (get_or-map year_sums years j d no_sums inside)
 
 module _ (t : PreparedTriangle) where
+  inside : (j : ℕ) → j + 1 < t.n → j < length t.years
+  inside j last = omega (arith, t.years_long, t.most)
+
+  pub exposed_at_place : (j : ℕ) (none : PreparedYear) → j + 1 < t.n → 0 < (get_or t.years j none).exposure
+  exposed_at_place j none last =
+      let same = get_or-map year_sums t.years j none no_sums (inside j last) in
+      let above : pos 0 <ℤ pos (get_or t.years j none).exposure = subst (λ (s : Sums). pos 0 <ℤ s.exposure) same (t.exposed j last) in
+      omega (arith, integers, above)
+
   pub sums_in_range : (k : ℕ) → 1 ≤ k → k < t.n → SumsInRange (sums_at (ratios_of t.years) k)
-  sums_in_range k first last = at_place t.years (omega (arith, t.years_long, t.most))
+  sums_in_range k first last = go t.years (inside (k - 1) (omega arith)) (λ none. exposed_at_place (k - 1) none (omega arith))
     where
-      at_place : (years : List PreparedYear) → k - 1 < length years → SumsInRange (sums_at (ratios_of years) k)
-      at_place [] inside = absurd (omega arith)
-      at_place (y ∷ ys) inside =
-          subst SumsInRange (sym (sums_at_place (y ∷ ys) (k - 1) k y inside (omega arith))) (get_or (y ∷ ys) (k - 1) y).sums_in_range
+      go : (years : List PreparedYear) → k - 1 < length years → ((none : PreparedYear) → 0 < (get_or years (k - 1) none).exposure) → SumsInRange (sums_at (ratios_of years) k)
+      go [] inside exposed = absurd (omega arith)
+      go (y ∷ ys) inside exposed =
+          subst SumsInRange (sym (sums_at_place (y ∷ ys) (k - 1) k y inside (omega arith))) ((get_or (y ∷ ys) (k - 1) y).ready (exposed y)).sums_in_range

@@ -7,7 +7,6 @@ use Rattle.prepared_ratios.specs.Ratio.{part_of}
 use Rattle.ratios.specs.declared.Sums.{Sums}
 use Rattle.ratios.specs.Ratios.{sums_of, no_sums}
 use Rattle.prepared_years.specs.declared.year.PreparedYear.{PreparedYear}
-use Rattle.prepared_years.specs.declared.triangle.PreparedTriangle.{PreparedTriangle}
 
 -- the sums that a year was prepared from
 abbrev pub year_sums : PreparedYear → Sums
@@ -40,9 +39,3 @@ pub record YearsKept (n : ℕ) (before after : List PreparedYear) : Type 0 where
 pub record YearsPrepared (n : ℕ) (ratios : List Sums) (before after : List PreparedYear) : Type 0 where
   pub kept : YearsKept n before after
   pub year : (j : ℕ) → j + 1 < n → get_or (ratios_of after) j no_sums ≡ get_or ratios j no_sums
-
--- the triangle of these ratios and outstandings
-pub record Prepared (n : ℕ) (ratios : List Sums) (outstandings : List ℤ) (t : PreparedTriangle) : Type 0 where
-  pub n_is : t.n ≡ n
-  pub outstandings_are : t.outstandings ≡ outstandings
-  pub year : (j : ℕ) → j + 1 < n → get_or (ratios_of t.years) j no_sums ≡ get_or ratios j no_sums

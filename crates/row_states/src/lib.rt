@@ -53,7 +53,7 @@ impl RowState {
     // The figures of the year that follows the projected ones, by its ratios; `None` where one of them passes the limit of question 9:
     // both shares are compared with it in `rounded_share`, the outstanding in `projection::next_year`.
     pub fn next_year(self, year: PreparedYear) -> Option<Movement>
-        requires { OutstandingInLimit self.outstanding.0 }
+        requires { OutstandingInLimit self.outstanding.0 × (0 < year.exposure) }
         ensures { result ≡ year_or_too_large (next_year self.outstanding.0 (sums_of (year_sums year))) }
     {
         next_year(self.outstanding, year)

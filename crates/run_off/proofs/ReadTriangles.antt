@@ -28,7 +28,8 @@ use Rattle.ratios.specs.declared.Sums.{Sums}
 use Rattle.ratios.specs.Ratios.{sums_of, sums_at, DevelopmentOf}
 use Rattle.triangle.specs.Reading.{ReadingOf}
 use Rattle.prepared_years.specs.declared.triangle.PreparedTriangle.{PreparedTriangle}
-use Rattle.prepared_years.specs.Prepared.{ratios_of, Preparable, Prepared}
+use Rattle.prepared_years.specs.Prepared.{ratios_of, Preparable}
+use Rattle.prepared_years.specs.PreparedTriangles.{Prepared}
 use Rattle.run_off.specs.MethodRead.{method_read}
 
 -- a prepared triangle that is this one's: its years, their sums, and its last observed outstandings

@@ -21,7 +21,7 @@ use Rattle.verdicts.specs.Verdicts.{refused_by, verdict_of}
 use Rattle.ratios.specs.declared.Development.{Development}
 use Rattle.triangle.specs.Reading.{ReadingOf}
 use Rattle.prepared_years.specs.declared.triangle.PreparedTriangle.{PreparedTriangle}
-use Rattle.prepared_years.specs.Prepared.{Prepared}
+use Rattle.prepared_years.specs.PreparedTriangles.{Prepared}
 use Rattle.projection.specs.declared.Movement.{Movement}
 use Rattle.projection.specs.Year.{movement_of}
 use Rattle.run_off.specs.MethodRead.{method_read}

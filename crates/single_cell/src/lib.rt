@@ -43,7 +43,7 @@ pub fn single_cell(
     cell_of(triangle, &development, accident_year, development_year)
 }
 
-// The cell of a triangle that questions 1 to 8 have accepted. It stays a call of its own, so that its 4,500 bytes of stack are not taken while a triangle is read.
+// The cell of a triangle that questions 1 to 8 have accepted. It stays a call of its own, so that its stack is not taken while a triangle is read.
 #[inline(never)]
 fn cell_of(
     triangle: Triangle<'_>,

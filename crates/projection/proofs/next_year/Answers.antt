@@ -10,7 +10,7 @@ use Rattle.projection.proofs.next_year.Goals.{In_ok-payment, In_ok-adjustment}
 
 pub returns-in_err-payment : goal.returns-in_err-payment
 returns-in_err-payment c =
-    c.from_residual.ensures ∙ payment_too_large c.requires c.args.year.sums_in_range (sym c.in_err-payment.was ∙ c.rounded_share.ensures)
+    c.from_residual.ensures ∙ payment_too_large c.requires.0 (c.args.year.ready c.requires.1).sums_in_range (sym c.in_err-payment.was ∙ c.rounded_share.ensures)
 
 payment_rounded : (c : In_ok-payment) → let s = sums_of (year_sums c.args.year) in
     Some c.in_ok-payment.payment ≡ share_or_too_large (share c.args.outstanding.0 s.P s.D)
@@ -20,7 +20,7 @@ pub returns-in_err-adjustment : goal.returns-in_err-adjustment
 returns-in_err-adjustment c =
     let here = goal.at.returns-in_err-adjustment c in
     c.from_residual-in_err-adjustment.ensures
-    ∙ adjustment_too_large c.requires c.args.year.sums_in_range (payment_rounded here.In_ok-payment) (sym c.in_err-adjustment.was ∙ c.rounded_share-2.ensures)
+    ∙ adjustment_too_large c.requires.0 (c.args.year.ready c.requires.1).sums_in_range (payment_rounded here.In_ok-payment) (sym c.in_err-adjustment.was ∙ c.rounded_share-2.ensures)
 
 adjustment_rounded : (c : In_ok-adjustment) → let s = sums_of (year_sums c.args.year) in
     Some c.in_ok-adjustment.adjustment ≡ share_or_too_large (share c.args.outstanding.0 s.Q s.D)
@@ -28,7 +28,7 @@ adjustment_rounded c = sym c.in_ok-adjustment.was ∙ c.rounded_share-2.ensures
 
 -- the two rounded shares and the outstanding are numbers of 64 bits, and so is what they make
 fits : (c : In_ok-adjustment) → NumbersFit c.args.outstanding.0 c.in_ok-payment.payment.0 c.in_ok-adjustment.adjustment.0
-fits c = numbers_fit _ _ c.requires (sym c.in_ok-payment.was ∙ c.rounded_share.ensures) (adjustment_rounded c)
+fits c = numbers_fit _ _ c.requires.0 (sym c.in_ok-payment.was ∙ c.rounded_share.ensures) (adjustment_rounded c)
 
 pub overflow_sub-next : goal.overflow_sub-next
 overflow_sub-next c =
@@ -44,7 +44,7 @@ pub returns-then-next-gt-GREATEST_FIGURE : goal.returns-then-next-gt-GREATEST_FI
 returns-then-next-gt-GREATEST_FIGURE c =
     let a = goal.at.returns-then-next-gt-GREATEST_FIGURE c in
     let f = fits a.In_ok-adjustment in
-    outstanding_too_large c.requires c.args.year.sums_in_range (payment_rounded a.In_ok-payment) (adjustment_rounded a.In_ok-adjustment)
+    outstanding_too_large c.requires.0 (c.args.year.ready c.requires.1).sums_in_range (payment_rounded a.In_ok-payment) (adjustment_rounded a.In_ok-adjustment)
     (simp (to_z-of_z f.outstanding, to_z-of_z f.payment, to_z-of_z f.adjustment, to_z-of_z f.less_payment, to_z-of_z f.next) at c.if-next-gt-GREATEST_FIGURE.true)
 
 pub returns : goal.returns
@@ -52,5 +52,5 @@ returns c =
     let a = goal.at.returns c in
     let f = fits a.In_ok-adjustment in
     simp (to_z-of_z f.outstanding, to_z-of_z f.payment, to_z-of_z f.adjustment, to_z-of_z f.less_payment, to_z-of_z f.next)
-    (all_within c.requires c.args.year.sums_in_range (payment_rounded a.In_ok-payment) (adjustment_rounded a.In_ok-adjustment)
+    (all_within c.requires.0 (c.args.year.ready c.requires.1).sums_in_range (payment_rounded a.In_ok-payment) (adjustment_rounded a.In_ok-adjustment)
     (simp (to_z-of_z f.outstanding, to_z-of_z f.payment, to_z-of_z f.adjustment, to_z-of_z f.less_payment, to_z-of_z f.next) at c.if-next-gt-GREATEST_FIGURE.false))

@@ -1,9 +1,9 @@
 -- Outstanding and movement call each other, the year falling.
-use Rattle.std.proofs.Common.{rules, ◌≡◌, ℕ, ◌-◌, pos, get_or, Some, refl, sym, ap, ◌∙◌, arith}
+use Rattle.std.proofs.Common.{rules, ◌≡◌, ℕ, ◌+◌, ◌-◌, ◌<◌, pos, get_or, Some, refl, sym, ap, ◌∙◌, arith}
 use Rattle.integers.proofs.MachineArithmetic.{Held}
 use Rattle.method.specs.RunOff.{movement}
 use Rattle.method.proofs.Positions.{entry_place}
-use Rattle.prepared_years.proofs.PreparedYears.{sums_at_place}
+use Rattle.prepared_years.proofs.PreparedYears.{exposed_at_place, sums_at_place}
 use Rattle.projection.specs.declared.Movement.{Movement}
 use Rattle.projection.specs.Year.{movement_of}
 use Rattle.row_states.specs.declared.RowState.{RowState}
@@ -23,7 +23,8 @@ pub movement-next_year-requires : goal.movement-next_year-requires
 movement-next_year-requires t c =
     let (y, later) = c.requires in
     let r = in_range (year_before_it y later) in
-    rw c.outstanding-before.ensures (record { nonneg = r.0; most = r.1 })
+    let last : c.args.k - 2 + 1 < c.args.triangle.now.n = omega (arith, y.last_year, y.row.last) in
+    (rw c.outstanding-before.ensures (record { nonneg = r.0; most = r.1 }), exposed_at_place c.args.triangle.now _ _ last)
 
 -- the year that was projected
 projected : (t : ℕ) (c : movement-After-next_year t) → c.next_year.result ≡ Some (movement_of (movement (method_read c.args.triangle.now) c.args.i (c.args.k - 1)))

@@ -10,7 +10,7 @@ use Rattle.method.specs.Triangle.{n}
 use Rattle.lent.specs.Triangles.{triangle_of}
 use Rattle.verdicts.specs.Verdicts.{verdict_of}
 use Rattle.verdicts.proofs.Counts.{count_fits}
-use Rattle.prepared_years.specs.Prepared.{Prepared}
+use Rattle.prepared_years.specs.PreparedTriangles.{Prepared}
 use Rattle.run_off.proofs.ReadTriangles.{accepted_reading, question_1_passed, years_observed, can_be_prepared}
 use Rattle.single_cell.proofs.WholeCells.{refused_projection, refused_years, unseen, cell_year, cell_later, accepted_whole}
 use Rattle.single_cell.proofs.cell_of.Goals as goal

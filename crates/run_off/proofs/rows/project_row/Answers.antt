@@ -2,6 +2,7 @@
 use Rattle.std.proofs.Common.{rules, ◌+◌, ◌-◌, ◌≤◌, ◌<◌, pos, get_or, arith}
 use Rattle.integers.proofs.MachineArithmetic.{Held}
 use Rattle.method.proofs.Positions.{entry_place}
+use Rattle.prepared_years.proofs.PreparedYears.{exposed_at_place}
 use Rattle.run_off.proofs.ProjectedYears.{no_year, year_to_project, outstanding_in_limit, too_large, movement_is, year_addable, one_year_more}
 use Rattle.run_off.proofs.RowAnswers.{accepted_row, years_all_written, refused_row, written_before, none_written, room, one_more_written, all_written}
 use Rattle.run_off.proofs.rows.project_row.Goals as goal
@@ -27,8 +28,10 @@ place_of_next_year-requires g c =
     year_to_project c.args.triangle.now c.requires.i_in_triangle c.loop-projected.invariant.row (omega arith)
 
 pub next_year-requires : goal.next_year-requires
-next_year-requires g c =
-    outstanding_in_limit c.args.triangle.now c.requires.i_in_triangle c.loop-projected.invariant.row (omega arith)
+next_year-requires g c = (
+  outstanding_in_limit c.args.triangle.now c.requires.i_in_triangle c.loop-projected.invariant.row (omega arith),
+  exposed_at_place c.args.triangle.now _ _ c.place_of_next_year.ensures.inside,
+)
 
 pub returns-in_default : goal.returns-in_default
 returns-in_default g c =
