@@ -1,4 +1,4 @@
-// Reading a place of a list, storing and copying into a part of one.
+// Reading a place of a list, and storing into a part of one.
 #![tactic(auto)]
 
 ghost use Rattle.std.specs.Prelude.{◌≡◌, [], ◌∷◌, ◌+◌, ◌≤◌, pos, length, get_or};
@@ -19,12 +19,4 @@ pub fn write_three(list: &mut [i64], at: usize, first: i64, second: i64, third: 
     list[at] = first;
     list[at + 1] = second;
     list[at + 2] = third;
-}
-
-// Copies a list into another, from a place on.
-pub fn copy_into(list: &mut [i64], at: usize, from: &[i64])
-    requires { at + length from.now ≤ length list.old }
-    ensures { list.new ≡ sets list.old at from.now }
-{
-    list[at..at + from.len()].copy_from_slice(from);
 }

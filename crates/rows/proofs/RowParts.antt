@@ -9,7 +9,6 @@ use Rattle.method.specs.Triangle.{cells_before}
 use Rattle.method.specs.Verdicts.{Place, accepted, refused}
 use Rattle.method.specs.Answers.{Amounts, payments, adjustments, named_list, row_verdict, row_of, row}
 use Rattle.method.proofs.Positions.{row_inside}
-use Rattle.method.proofs.Rows.{RowAccepted, row_accepted, named_length}
 use Rattle.verdicts.proofs.Counts.{few_cells}
 use Rattle.rows.specs.Rows.{RowInside, ListInMemory, named_of}
 
@@ -36,9 +35,3 @@ module _ (years : ℤ) (payment_list adjustment_list : List ℤ) (accident_year 
         ≡ row years payment_list adjustment_list accident_year named
     unfolding row row_of
     accepted_row = sym (ap (row_of years payment_list adjustment_list accident_year (named_list payment_list adjustment_list named)) e)
-
-    -- the row is inside the list that is named
-    pub inside_named_list : RowInside (named_list payment_list adjustment_list named) (nat_abs years) (nat_abs accident_year)
-    inside_named_list =
-        let a : RowAccepted years payment_list adjustment_list accident_year = row_accepted years payment_list adjustment_list accident_year e in
-        record { most = a.years_right.most; first = a.first; last = a.last; long = named_length years payment_list adjustment_list accident_year a named }
