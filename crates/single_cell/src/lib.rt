@@ -40,12 +40,12 @@ pub fn single_cell(
 {
     let mut development = NOTHING_READ;
     read_into(triangle, None, &mut development)?;
-    cell_of(triangle, &development, accident_year, development_year)
+    projected_cell(triangle, &development, accident_year, development_year)
 }
 
-// The cell of a triangle that questions 1 to 8 have accepted. It stays a call of its own, so that its stack is not taken while a triangle is read.
+// The cell of a triangle that questions 1 to 8 have accepted. It stays a call of its own, so that a prepared triangle takes no stack while one is read.
 #[inline(never)]
-fn cell_of(
+fn projected_cell(
     triangle: Triangle<'_>,
     development: &Development,
     accident_year: i64,

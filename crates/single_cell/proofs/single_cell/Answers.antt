@@ -11,11 +11,11 @@ returns-in_err-read_into c =
     let p = err_from_is_err_and c.from_residual.result c.from_residual.ensures.1 in
     rw (p.1, p.2) (with_demands _ _ _ (Err c.in_err-read_into.field-0.0) (refused_reading _ _ _ c.in_err-read_into.ensures.0))
 
-pub cell_of-requires : goal.cell_of-requires
-cell_of-requires c = c.in_ok-read_into.ensures
+pub projected_cell-requires : goal.projected_cell-requires
+projected_cell-requires c = c.in_ok-read_into.ensures
 
 pub returns : goal.returns
 returns c =
     let i : Held c.args.accident_year = search rules in
     let k : Held c.args.development_year = search rules in
-    with_demands _ _ _ c.cell_of.result (simp (i, k) at c.cell_of.ensures)
+    with_demands _ _ _ c.projected_cell.result (simp (i, k) at c.projected_cell.ensures)
