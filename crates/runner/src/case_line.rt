@@ -24,6 +24,7 @@ pub(crate) fn work(rt: &impl Print, line: &[u8]) {
 }
 
 // Reads what is lent, and the numbers of the last field, which mean what the call takes them for; 0 where a field has fewer.
+// There is room for the lists of 33 accident years, one more than a triangle may have. It is fixed, so that no reading fails for want of memory.
 fn try_case(rt: &impl Print, fields: Text<'_>) {
     let mut payments = [0; 561];
     let mut adjustments = [0; 561];
@@ -31,19 +32,19 @@ fn try_case(rt: &impl Print, fields: Text<'_>) {
     let mut openings = [0; 32];
     let mut size = [0; 2];
     let mut last = [0; 3];
-    let payments_end = read_numbers(rt, fields.field(3), &mut payments);
-    let adjustments_end = read_numbers(rt, fields.field(4), &mut adjustments);
-    let weights_end = read_numbers(rt, fields.field(5), &mut weights);
-    let openings_end = read_numbers(rt, fields.field(6), &mut openings);
+    let payments = read_numbers(rt, fields.field(3), &mut payments);
+    let adjustments = read_numbers(rt, fields.field(4), &mut adjustments);
+    let weights = read_numbers(rt, fields.field(5), &mut weights);
+    let openings = read_numbers(rt, fields.field(6), &mut openings);
     read_numbers(rt, fields.field(2), &mut size);
     read_numbers(rt, fields.field(7), &mut last);
     let triangle = Triangle {
         years: size[0],
         cut: size[1],
-        payments: &payments[..payments_end],
-        adjustments: &adjustments[..adjustments_end],
-        weights: &weights[..weights_end],
-        openings: &openings[..openings_end],
+        payments,
+        adjustments,
+        weights,
+        openings,
     };
     call(rt, fields.bytes, triangle, last);
 }

@@ -32,17 +32,19 @@ pub(crate) fn compare(rt: &impl Print) {
 // A cumulated triangle of ten accident years, row after row, as what each year adds.
 fn differences(cumulated: [i64; 55]) -> [i64; 55] {
     let mut increments = cumulated;
-    for at in 1..55 {
+    let later = increments.iter_mut().enumerate().skip(1);
+    for ((at, increment), before) in later.zip(&cumulated) {
         if !ROW_STARTS.contains(&at) {
-            increments[at] = difference(cumulated[at], cumulated[at - 1]).unwrap_or(0);
+            *increment = difference(*increment, *before).unwrap_or(0);
         }
     }
     increments
 }
 
 fn print_years(rt: &impl Print, reserves: [i64; 30]) {
-    for i in 0..10 {
-        print_year(rt, i as i64 + 1, RESERVES[i], reserves[3 * i]);
+    let paid = reserves.iter().step_by(3);
+    for (i, (paper, computed)) in (1..11).zip(RESERVES.iter().zip(paid)) {
+        print_year(rt, i, *paper, *computed);
     }
 }
 

@@ -7,7 +7,7 @@ pub(crate) fn print(rt: &impl Print, text: &[u8]) {
     let _ = rt.write_all(text);
 }
 
-// A text, and a number after it.
+// A text, and a number after it. Beside the next it stays: one function of both would take the writing as a parameter at each call.
 pub(crate) fn print_number(rt: &impl Print, text: &[u8], number: i64) {
     print(rt, text);
     print(rt, whole(number).text());

@@ -9,7 +9,7 @@ use lists::number_at;
 // Prints the verdict, and the reserves at a place of the reserve list or whether both lists hold zeros throughout.
 pub(crate) fn try_reserve(rt: &impl Print, triangle: Triangle<'_>, last: [i64; 3]) {
     let [future_length, reserves_length, place] = last;
-    // Every number of both lists is 7 before the call.
+    // Every number of both lists is 7 before the call. There is room for the lists of 33 accident years, and a case lends a part of it.
     let mut future_room = [7; 1584];
     let mut reserves_room = [7; 99];
     let future = &mut future_room[..within(future_length, 1584)];
@@ -22,7 +22,7 @@ pub(crate) fn try_reserve(rt: &impl Print, triangle: Triangle<'_>, last: [i64; 3
     }
 }
 
-// A count, cut to the most that there is room for; 0 where it is negative.
+// A count, cut to the most that there is room for; 0 where it is negative. One chain of the library, whose contract says that bound.
 fn within(count: i64, most: usize) -> usize
     ensures { result ≤ most }
 {
