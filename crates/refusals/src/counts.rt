@@ -5,7 +5,7 @@ ghost use Rattle.refusals.specs.Counts.{count_of, count_or_0};
 
 use verdicts::limits::ACCIDENT_YEARS;
 
-// A number of years, or 0 where no triangle has as many.
+// A number of years, or 0 where no triangle has as many. This and the next are each a chain of the library, under a contract in the words of the definitions.
 pub fn count_of(years: i64) -> usize
     ensures { (result ≡ count_of years) × (result ≤ most_accident_years) }
 {

@@ -46,6 +46,7 @@ pub fn found_at(triangle: Triangle<'_>, place: Place) -> Found
 }
 
 // Cell (i, k) of a list whose rows have n, n − 1, … cells; 0 where it is no cell of them.
+// This and the next ask of n, and of nothing else that they take: a struct of n and a list would ask the same once more.
 fn cell_in(n: usize, list: &[i64], i: usize, k: usize) -> i64
     requires { n ≤ most_accident_years }
     ensures { CellIn n list.now i k result }

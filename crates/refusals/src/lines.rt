@@ -17,6 +17,7 @@ use printed::line::Line;
 use verdicts::verdict::{Place, Question, Refusal};
 
 // The first line: the question and its place.
+#[tactic(auto, using(integers::proofs::MachineArithmetic::held), unfolding(crate::specs::Sentences::refused_line))]
 pub fn refused_line(refusal: Refusal) -> Line
     ensures { LineIs (meaning.refused_line (number_of refusal.question) refusal.place.accident_year refusal.place.development_year) result }
 {
@@ -29,6 +30,7 @@ pub fn refused_line(refusal: Refusal) -> Line
 }
 
 // The second line: what is wrong. The cell that is asked for is one that question 10 refuses.
+#[tactic(auto, using(integers::proofs::MachineArithmetic::held), unfolding(crate::specs::Sentences::sentence))]
 pub fn sentence(
     refusal: Refusal,
     triangle: Triangle<'_>,
@@ -92,6 +94,7 @@ fn amounts_sentence(i: i64, k: i64, found: Found) -> Line
     )
 }
 
+#[tactic(auto, using(integers::proofs::MachineArithmetic::held), unfolding(crate::specs::Sentences::observed_sentence, crate::specs::Sentences::opening_sentence))]
 fn observed_sentence(i: i64, k: i64, found: Found) -> Line
     ensures { LineIs (meaning.observed_sentence i k found) result }
 {
@@ -115,13 +118,16 @@ pub enum InText {
     OpeningsHeading,
 }
 
+#[tactic(auto, unfolding(crate::specs::Sentences::in_text))]
 pub fn in_text(question: Question, found: Found) -> InText
     ensures { result ≡ meaning.in_text (number_of question) found }
 {
     match question {
         Question::WeightInRange | Question::WeightAllowed => InText::WeightsRow,
-        Question::AmountRight => amounts_in_text(found.payment_right),
-        Question::OutstandingInRange => observed_in_text(found.opening),
+        Question::AmountRight if found.payment_right => InText::AdjustmentsRow,
+        Question::AmountRight => InText::PaymentsRow,
+        Question::OutstandingInRange if found.opening => InText::OpeningsHeading,
+        Question::OutstandingInRange => InText::BothRows,
         Question::Years
         | Question::Cut
         | Question::Lengths
@@ -134,33 +140,15 @@ pub fn in_text(question: Question, found: Found) -> InText
     }
 }
 
-fn amounts_in_text(payment_right: bool) -> InText
-    ensures { result ≡ meaning.amounts_in_text payment_right }
-{
-    if payment_right {
-        InText::AdjustmentsRow
-    } else {
-        InText::PaymentsRow
-    }
-}
-
-fn observed_in_text(opening: bool) -> InText
-    ensures { result ≡ meaning.observed_in_text opening }
-{
-    if opening {
-        InText::OpeningsHeading
-    } else {
-        InText::BothRows
-    }
-}
-
 // The third line, where the text has it in one line or in two.
+#[tactic(auto, using(integers::proofs::MachineArithmetic::held), unfolding(crate::specs::Sentences::see_line))]
 pub fn see_line(line: usize) -> Line
     ensures { LineIs (meaning.see_line line) result }
 {
     filled(b"See line @.", &[signed(line)])
 }
 
+#[tactic(auto, using(integers::proofs::MachineArithmetic::held), unfolding(crate::specs::Sentences::see_lines))]
 pub fn see_lines(first: usize, second: usize) -> Line
     ensures { LineIs (meaning.see_lines first second) result }
 {

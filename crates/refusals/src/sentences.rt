@@ -46,6 +46,7 @@ pub(crate) fn lengths_sentence(triangle: Triangle<'_>) -> Line
 }
 
 // An amount within the limit is wrong only where its cell is missing: the first sentence says that, and the second that it is beyond the limit.
+#[tactic(auto, using(integers::proofs::MachineArithmetic::held), unfolding(crate::specs::Sentences::amount_sentence))]
 pub(crate) fn amount_sentence(i: i64, k: i64, x: i64, missing: &[u8], beyond: &[u8]) -> Line
     ensures { LineIs (meaning.amount_sentence i k x missing.now beyond.now) result }
 {

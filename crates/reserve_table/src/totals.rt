@@ -12,6 +12,7 @@ pub(crate) fn total_of<F: Fn(usize) -> i64>(places: Range<usize>, number: F) -> 
     requires { (place : ℕ) → places.start ≤ place → place < places.end → F.pre number place }
     ensures { TotalOf (F.post number) places.start places.end result }
 {
+    // tried as a try_fold: that the number may be asked at each of its turns did not close, since that is known of these places only
     let mut total = 0;
     for place in places.start..places.end {
         total = sum(total, number(place))?;

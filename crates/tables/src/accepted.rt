@@ -11,6 +11,7 @@ pub fn accepted_line(years: i64, cut: i64) -> Line
     filled(b"accepted: @ accident years, cut @", &[years, cut])
 }
 
+// This and the next two are each a condition with its two texts: a function of both texts would say no more than the `if`.
 pub fn payments_line(cumulated: bool) -> Line
     ensures { LineIs (meaning.payments_line cumulated) result }
 {

@@ -28,6 +28,7 @@ pub fn sums_heading(column: usize) -> Line
 }
 
 // The row of development year k, whose sums project from that year to the next.
+// The ratios stand by themselves, and so does a year with its bound: a struct of n and the ratios would ask for an n that a row does not need.
 pub fn sums_row(ratios: [Sums; DEVELOPMENT_YEARS], k: usize, column: usize) -> Line
     requires { (1 ≤ k) × (k < most_accident_years) }
     ensures { LineIs (meaning.sums_row ratios k column) result }

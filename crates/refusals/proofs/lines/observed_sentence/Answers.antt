@@ -11,9 +11,3 @@ unfolding opening_sentence observed_sentence
 returns-then-found c =
     let number = held c.args.found.outstanding (omega arith) in
     rw c.if-found.true (simp (to_z-of_z {w = w64} c.ranges.i, to_z-of_z {w = w64} c.ranges.k, number) at c.filled.ensures)
-
-pub returns : goal.returns
-unfolding observed_sentence
-returns c =
-    let number = held c.args.found.outstanding (omega arith) in
-    rw c.if-found.false (simp (to_z-of_z {w = w64} c.ranges.i, to_z-of_z {w = w64} c.ranges.k, number) at c.outstanding_sentence.ensures)
