@@ -1,5 +1,5 @@
 -- What a cell of a table holds, byte by byte.
-use Rattle.std.specs.Prelude.{Bool, true, false, cond, List, [], ◌∷◌, ℕ, ◌+◌, ◌-◌, ◌*◌, ◌^◌, eqb, ℤ, pos, neg_ℤ, Result, Ok, Err}
+use Rattle.std.specs.Prelude.{Bool, true, false, cond, List, [], ◌∷◌, ℕ, ◌+◌, ◌-◌, ◌*◌, ◌^◌, min, eqb, ℤ, pos, neg_ℤ, Result, Ok, Err}
 use Rattle.std.specs.Char.{is_ascii_digit}
 use Rattle.std.specs.List.{list_all}
 use Prim.Native.Char.{code}
@@ -52,3 +52,8 @@ figure_of (byte ∷ bytes) = cond (eqb byte minus_sign) (number_of true bytes) (
 -- It stands for every larger size too: no number of 64 bits with a sign has it.
 abbrev pub greatest_size : ℕ
 greatest_size = 2 ^ 64 - 1
+
+-- the size that is kept of a number that is these digits
+abbrev pub size_of : List ℕ → Result ℕ NoFigure
+size_of [] = Err NotWhole
+size_of (byte ∷ bytes) = cond (all_digits (byte ∷ bytes)) (Ok (min (value_of (byte ∷ bytes)) greatest_size)) (Err NotWhole)

@@ -1,4 +1,4 @@
 // Cells of text read as whole numbers.
-#![tactic(auto, unfolding(crate::specs::Reading::figure_of))]
+#![tactic(auto)]
 
 pub mod reading;

@@ -2,7 +2,7 @@
 use Rattle.std.proofs.Common.{rules, ◌≡◌, ◌∙◌}
 use Rattle.std.specs.List.{fold}
 use Rattle.figures.proofs.Digits.{one_digit_more, fold_is_value}
-use Rattle.figures.proofs.reading.size_of.Goals as goal
+use Rattle.figures.proofs.reading.value_of.Goals as goal
 
 pub returns : goal.returns
 returns c =
