@@ -5,7 +5,7 @@ ghost use Rattle.line_kinds.specs.Kinds as meaning;
 
 use line_parts::cells::Text;
 use line_parts::words::is_word;
-use text::search::from;
+use text::search::{from, is_content};
 
 #[derive(Clone, Copy, PartialEq, Eq)]
 pub enum LineKind {
@@ -46,9 +46,7 @@ impl LineKind {
 pub fn kind_of(line: Text<'_>) -> LineKind
     ensures { result ≡ meaning.kind_of line.entry.separator line.entry.bytes.now }
 {
-    let content = from(line.bytes, |byte| {
-        (byte != b' ') & (byte != line.separator)
-    });
+    let content = from(line.bytes, |byte| is_content(byte, line.separator));
     if content.is_empty() {
         return blank_or_separators(line.bytes);
     }

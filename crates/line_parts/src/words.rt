@@ -21,6 +21,7 @@ impl<'a> Text<'a> {
 }
 
 // Whether a word is this name, which is in small letters.
+// One chain of the library, under a contract in the words of FORMAT.md.
 pub fn is_word(word: &[u8], name: &[u8]) -> bool
     ensures { result ≡ meaning.is_word word.now name.now }
 {

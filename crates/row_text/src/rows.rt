@@ -6,7 +6,7 @@ ghost use Rattle.row_text.specs.Rows.{row_numbers, at_cell, counted_from, ends_h
 
 use crate::entries::{CellFault, Entry, entry_in};
 use line_parts::cells::Text;
-use text::search::{before, from};
+use text::search::{before, from, is_content};
 
 // The cell that is wrong, counted from 1, and what was expected there.
 #[derive(Clone, Copy)]
@@ -62,7 +62,7 @@ fn ends_here(rest: Text<'_>, openings: bool) -> bool
 fn is_blank(rest: Text<'_>) -> bool
     ensures { result ≡ is_empty (from_content rest.entry.separator rest.entry.bytes.now) }
 {
-    from(rest.bytes, |byte| (byte != b' ') & (byte != rest.separator)).is_empty()
+    from(rest.bytes, |byte| is_content(byte, rest.separator)).is_empty()
 }
 
 // The list is full after so many cells. Nothing but blank cells may follow, as after the last opening.
@@ -79,16 +79,14 @@ fn row_end(rest: Text<'_>, openings: bool, cells: usize) -> Result<usize, WrongC
             expected: CellFault::NoFurtherOpening,
         });
     }
-    let blank = before(rest.bytes, |byte| {
-        (byte != b' ') & (byte != rest.separator)
-    });
+    let blank = before(rest.bytes, |byte| is_content(byte, rest.separator));
     Err(WrongCell {
         cell: cells + 1 + count(blank, rest.separator),
         expected: CellFault::RowEnd,
     })
 }
 
-// How often a byte stands in a text.
+// How often a byte stands in a text: one chain of the library, under a contract that says what it counts.
 fn count(text: &[u8], byte: u8) -> usize
     ensures { result ≡ occurrences byte text.now }
 {

@@ -43,3 +43,10 @@ pub fn parts_words(byte: u8, separator: u8) -> bool
 {
     (byte == b' ') | (byte == b'"') | (byte == separator)
 }
+
+// Whether a byte is neither a space nor this separator: it belongs to a cell that is not blank.
+pub fn is_content(byte: u8, separator: u8) -> bool
+    ensures { result ≡ meaning.is_content separator byte }
+{
+    (byte != b' ') & (byte != separator)
+}
