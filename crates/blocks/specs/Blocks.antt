@@ -5,7 +5,7 @@ use Rattle.text.specs.Bytes.{longest_text}
 use Rattle.line_kinds.specs.Kinds.{kind_of, is_heading, same_kind}
 use Rattle.line_kinds.specs.declared.kinds.LineKind.{LineKind}
 use Rattle.line_kinds.specs.declared.kinds.LineKind.TheVariants.{Row}
-use Rattle.heading_faults.specs.declared.MisplacedLine.{MisplacedLine}
+use Rattle.heading_faults.specs.declared.WrongLine.{WrongLine}
 use Rattle.row_text.specs.Rows.{with_numbers, row_numbers, openings_numbers, ReadAs}
 use Rattle.row_text.specs.declared.rows.WrongCell.{WrongCell}
 use Rattle.method.specs.Limits.{most_accident_years}
@@ -25,8 +25,8 @@ abbrev pub faulty : ℕ → ℕ → Expected → Block
 faulty line cell expected = Err record { line = line; cell = cell; expected = expected }
 
 -- the fault of a whole line
-abbrev pub of_heading : MisplacedLine → Fault
-of_heading misplaced = record { line = misplaced.line; cell = 0; expected = InHeading misplaced.expected }
+abbrev pub of_heading : WrongLine → Fault
+of_heading wrong = record { line = wrong.line; cell = 0; expected = InHeading wrong.expected }
 
 -- a block that goes on after the numbers of a row
 abbrev pub then_rows : Block → (List ℤ → Block) → Block

@@ -2,7 +2,7 @@
 ghost use Rattle.std.specs.Prelude.{◌≡◌};
 ghost use Rattle.blocks.specs.Blocks.{of_heading};
 
-use heading_faults::{HeadingFault, MisplacedLine};
+use heading_faults::{HeadingFault, WrongLine};
 use row_text::entries::CellFault;
 
 // What was expected.
@@ -23,15 +23,15 @@ pub struct Fault {
     pub expected: Expected,
 }
 
-// A line that stands in no place of its own is meant as a whole.
-impl From<MisplacedLine> for Fault {
-    ghost from_gives = { λ line fault. fault ≡ of_heading line };
+// A wrong line is meant as a whole.
+impl From<WrongLine> for Fault {
+    ghost from_gives = { λ wrong fault. fault ≡ of_heading wrong };
 
-    fn from(line: MisplacedLine) -> Fault {
+    fn from(wrong: WrongLine) -> Fault {
         Fault {
-            line: line.line,
+            line: wrong.line,
             cell: 0,
-            expected: Expected::InHeading(line.expected),
+            expected: Expected::InHeading(wrong.expected),
         }
     }
 }

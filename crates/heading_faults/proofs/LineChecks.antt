@@ -7,7 +7,7 @@ use Rattle.std.specs.Prelude.{Ok, Err}
 use Rattle.line_kinds.specs.Kinds.{kind_of}
 use Rattle.line_kinds.specs.declared.kinds.LineKind.{LineKind}
 use Rattle.heading_faults.specs.Faults.{Checked, FirstFault, line_check, under_after, or_later, fault_after, heading_fault}
-use Rattle.heading_faults.specs.declared.MisplacedLine.{MisplacedLine}
+use Rattle.heading_faults.specs.declared.WrongLine.{WrongLine}
 
 -- The lines that are left, after so many and under the last heading before them, have the first fault of all.
 module _ (separator : ℕ) (all : List (List ℕ)) where
@@ -28,7 +28,7 @@ module _ (separator : ℕ) (all : List (List ℕ)) where
       unfolding later fault_after
       by_line = rw (is, kind_is, add-one) (rw steps at so_far.same_fault)
 
-      pub fault_here : (fault : MisplacedLine) → or_later checked (number + 1) (Ok tt) ≡ Err fault → Err fault ≡ heading_fault separator all
+      pub fault_here : (fault : WrongLine) → or_later checked (number + 1) (Ok tt) ≡ Err fault → Err fault ≡ heading_fault separator all
       fault_here fault told = go checked told by_line
         where
           go : (checked : Checked) → or_later checked (number + 1) (Ok tt) ≡ Err fault

@@ -11,7 +11,7 @@ use Rattle.line_kinds.specs.declared.kinds.LineKind.{LineKind}
 use Rattle.line_kinds.specs.declared.kinds.LineKind.TheVariants.{Blank, Separators, Payments, Adjustments, Weights, Openings, Cut, Cell, Row, Unknown}
 use Rattle.heading_faults.specs.declared.HeadingFault.{HeadingFault}
 use Rattle.heading_faults.specs.declared.HeadingFault.TheVariants.{HeadingBeforeRow, FiguresInRow, KnownHeading, HeadingOnce, CumulatedOrIncremental, NothingAfterHeading, NumberAfterCut, YearsAfterCell}
-use Rattle.heading_faults.specs.declared.MisplacedLine.{MisplacedLine}
+use Rattle.heading_faults.specs.declared.WrongLine.{WrongLine}
 
 -- What a check answers: nothing, or what was expected.
 abbrev pub Checked : Type 0
@@ -87,7 +87,7 @@ under_after under kind = cond (is_heading kind) kind under
 
 -- The line and what was expected there, or else the first fault of later lines.
 abbrev pub FirstFault : Type 0
-FirstFault = Result (Unit {0}) MisplacedLine
+FirstFault = Result (Unit {0}) WrongLine
 
 abbrev pub or_later : Checked → ℕ → FirstFault → FirstFault
 or_later (Ok nothing) number later = later

@@ -27,13 +27,13 @@ pub enum HeadingFault {
 
 // A line, counted from 1, and what was expected there.
 #[derive(Clone, Copy, PartialEq, Eq)]
-pub struct MisplacedLine {
+pub struct WrongLine {
     pub line: usize,
     pub expected: HeadingFault,
 }
 
 // The first fault of all lines.
-pub fn first_fault(text: Text<'_>) -> Result<(), MisplacedLine>
+pub fn first_fault(text: Text<'_>) -> Result<(), WrongLine>
     ensures { result ≡ meaning.heading_fault text.entry.separator (lines text.entry.bytes.now) }
 {
     let mut under = LineKind::Blank;
@@ -41,18 +41,15 @@ pub fn first_fault(text: Text<'_>) -> Result<(), MisplacedLine>
         let line = Text { bytes, ..text };
         let kind = kind_of(line);
         let number = before + 1;
-        at_line(number, check_line(text, line, number, kind, under))?;
+        check_line(text, line, number, kind, under).map_err(|expected| WrongLine {
+            line: number,
+            expected,
+        })?;
         if kind.is_heading() {
             under = kind;
         }
     }
     Ok(())
-}
-
-fn at_line(line: usize, checked: Result<(), HeadingFault>) -> Result<(), MisplacedLine>
-    ensures { result ≡ meaning.or_later checked line (Ok tt) }
-{
-    checked.map_err(|expected| MisplacedLine { line, expected })
 }
 
 // A line of this number and kind, under the last heading before it.

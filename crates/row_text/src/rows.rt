@@ -2,7 +2,7 @@
 ghost use Rattle.std.specs.Prelude.{◌≡◌, ◌≤◌, length};
 ghost use Rattle.text.specs.Bytes.{longest_text};
 ghost use Rattle.line_parts.specs.Cells.{is_empty, from_content};
-ghost use Rattle.row_text.specs.Rows.{row_numbers, at_cell, counted_from, ends_here, ended, occurrences, RowInput, ReadAs};
+ghost use Rattle.row_text.specs.Rows.{row_numbers, counted_from, ends_here, ended, occurrences, RowInput, ReadAs};
 
 use crate::entries::{CellFault, Entry, entry_in};
 use line_parts::cells::Text;
@@ -20,6 +20,7 @@ pub struct WrongCell {
 // Of the row's first cells so many are missing, and may be blank.
 // Where the figures are cumulated the list holds what each adds to the one before.
 // Behind the numbers, and where a cell is wrong, what the list then holds is left open.
+// Both flags are what a text says, of its figures and by its heading: an enum of rows would be no plainer, matched in each place that reads one of them.
 pub fn read_row(
     line: Text<'_>,
     missing: usize,
@@ -36,20 +37,14 @@ pub fn read_row(
         if ends_here(rest, openings) {
             return Ok(cells);
         }
+        let cell = cells + 1;
         let entry = entry_in(rest.first_cell(), cells < missing, cumulated, figure);
-        let entry = at_cell(cells + 1, entry)?;
+        let entry = entry.map_err(|expected| WrongCell { cell, expected })?;
         *place = entry.amount;
         figure = entry.figure;
         rest = rest.after_cell();
     }
     row_end(rest, openings, list.len())
-}
-
-// What the cell of this number holds.
-fn at_cell(cell: usize, entry: Result<Entry, CellFault>) -> Result<Entry, WrongCell>
-    ensures { result ≡ at_cell cell entry }
-{
-    entry.map_err(|expected| WrongCell { cell, expected })
 }
 
 // Whether a row of openings ends here: nothing but blank cells is left. Another row ends where the list is full.

@@ -18,7 +18,7 @@ use Rattle.text.specs.Bytes.{longest_text}
 use Rattle.text.specs.Lines.{lines}
 use Rattle.line_parts.specs.Cells.{separator_of}
 use Rattle.heading_faults.specs.Faults.{heading_fault}
-use Rattle.heading_faults.specs.declared.MisplacedLine.{MisplacedLine}
+use Rattle.heading_faults.specs.declared.WrongLine.{WrongLine}
 use Rattle.method.specs.Limits.{most_accident_years}
 use Rattle.method.specs.Triangle.{amounts_length}
 use Rattle.method.specs.Verdicts.{ask}
@@ -123,11 +123,11 @@ module _ (bytes text : List ℕ) (is : text ≡ without_mark bytes) (separator :
   is_reading = rw (parted, is)
 
   -- the headings have a fault
-  pub faulty_headings : {misplaced : MisplacedLine} {r : Result TextRead Fault} {payments adjustments weights openings : List ℤ}
-      → heading_fault separator (lines text) ≡ Err misplaced → r ≡ Err (of_heading misplaced)
+  pub faulty_headings : {wrong : WrongLine} {r : Result TextRead Fault} {payments adjustments weights openings : List ℤ}
+      → heading_fault separator (lines text) ≡ Err wrong → r ≡ Err (of_heading wrong)
       → TextReadAs (reading bytes) r payments adjustments weights openings
   unfolding reading_of
-  faulty_headings {misplaced} e answer = text_wrong {fault = of_heading misplaced} (sym is_reading ∙ rw e) answer
+  faulty_headings {wrong} e answer = text_wrong {fault = of_heading wrong} (sym is_reading ∙ rw e) answer
 
   module _ {asked : Asked} (told : asked ≡ asked_in separator (lines text)) (right : heading_fault separator (lines text) ≡ Ok tt) where
     right_headings : with_headings separator (lines text) asked ≡ reading bytes

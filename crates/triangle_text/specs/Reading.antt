@@ -103,7 +103,7 @@ module _ (separator : ℕ) (all : List (List ℕ)) where
 
   abbrev pub unless_fault : FirstFault → Reading → Reading
   unless_fault (Ok right) read = read
-  unless_fault (Err misplaced) read = malformed misplaced.line 0 (InHeading misplaced.expected)
+  unless_fault (Err wrong) read = malformed wrong.line 0 (InHeading wrong.expected)
 
 -- by the text's separator and its lines
 unfoldable pub reading_of : ℕ → List (List ℕ) → Reading

@@ -1,41 +1,54 @@
 -- Each turn passes a line without a fault.
-use mathlib.Core.Path.{sym, ◌∙◌}
+use mathlib.Core.Path.{◌≡◌, sym, ◌∙◌}
 use mathlib.Core.Logic.{inl}
+use Prim.Native.Nat.{◌+◌}
 use borrow.Author.Rules.{rules}
+use Rattle.std.specs.Prelude.{Ok}
 use Rattle.std.specs.Iterator.Adapters.{enumerate_source, enumerate_count}
 use Rattle.text.specs.Lines.{lines}
 use Rattle.text.proofs.LinesOfText.{lines_within}
-use Rattle.heading_faults.proofs.LineChecks.{no_fault, fault_here, checks_go_on}
+use Rattle.heading_faults.specs.Faults.{under_after, or_later}
+use Rattle.heading_faults.proofs.LineChecks.{CheckedTo, no_fault, fault_here, checks_go_on}
 use Rattle.heading_faults.proofs.first_fault.Goals as goal
+use Rattle.heading_faults.proofs.first_fault.Goals.{After-map_err, After-is_heading}
 
 pub loop-before-init : goal.loop-before-init
 loop-before-init c =
     let within = lines_within c.args.text.bytes.now in
     ((tt, tt, inl (search rules)), search rules, search rules)
 
-pub returns-in_err-at_line : goal.returns-in_err-at_line
-returns-in_err-at_line c =
-    let here = fault_here c.args.text.separator (lines c.args.text.bytes.now) c.loop-before.under c.in-Some.before
-    (lines (enumerate_source c.loop-before.before-iterator).rest.now) (rw (sym c.in-Some.ensures.steps.1) at c.loop-before.invariant.2)
-    c.in-Some.bytes.now (lines (enumerate_source c.next.new.self).rest.now) c.in-Some.ensures.steps.0
-    c.kind_of-kind.result c.kind_of-kind.ensures c.check_line.result c.check_line.ensures _ (sym c.at_line.ensures ∙ c.in_err-at_line.was) in
+-- what is left before the line, and its fault
+so_far : (c : After-map_err) → CheckedTo c.args.text.separator (lines c.args.text.bytes.now) c.loop-before.under c.in-Some.before
+    (lines (enumerate_source c.loop-before.before-iterator).rest.now)
+so_far c = rw (sym c.in-Some.ensures.steps.1) at c.loop-before.invariant.2
+
+mapped : (c : After-map_err) → c.map_err.result ≡ or_later c.check_line.result (c.in-Some.before + 1) (Ok tt)
+mapped c = search rules
+
+pub returns-in_err-map_err : goal.returns-in_err-map_err
+returns-in_err-map_err c =
+    let line = (goal.at.returns-in_err-map_err c).After-map_err in
+    let here = fault_here c.args.text.separator (lines c.args.text.bytes.now) _ _ _ (so_far line) c.in-Some.bytes.now _ c.in-Some.ensures.steps.0
+    c.kind_of-kind.result c.kind_of-kind.ensures c.check_line.result c.check_line.ensures _ (sym (mapped line) ∙ c.in_err-map_err.was) in
     search rules
+
+-- the line has none
+passed : (c : After-is_heading) → CheckedTo c.args.text.separator (lines c.args.text.bytes.now) (under_after c.loop-before.under c.kind_of-kind.result)
+    (c.in-Some.before + 1) (lines (enumerate_source c.next.new.self).rest.now)
+passed c =
+    let line = (goal.at.After-is_heading c).After-map_err in
+    checks_go_on c.args.text.separator (lines c.args.text.bytes.now) _ _ _ (so_far line) c.in-Some.bytes.now _ c.in-Some.ensures.steps.0
+    c.kind_of-kind.result c.kind_of-kind.ensures c.check_line.result c.check_line.ensures _ (sym (mapped line) ∙ c.in_ok-map_err.was)
 
 pub loop-before-preserved-then-is_heading : goal.loop-before-preserved-then-is_heading
 loop-before-preserved-then-is_heading c =
-    let goes_on = checks_go_on c.args.text.separator (lines c.args.text.bytes.now) c.loop-before.under c.in-Some.before
-    (lines (enumerate_source c.loop-before.before-iterator).rest.now) (rw (sym c.in-Some.ensures.steps.1) at c.loop-before.invariant.2)
-    c.in-Some.bytes.now (lines (enumerate_source c.next.new.self).rest.now) c.in-Some.ensures.steps.0
-    c.kind_of-kind.result c.kind_of-kind.ensures c.check_line.result c.check_line.ensures _ (sym c.at_line.ensures ∙ c.in_ok-at_line.was) in
-    (c.in-Some.ensures.goes.keeps, tt, rw (c.in-Some.ensures.steps.2, sym c.in-Some.ensures.steps.1) (rw (sym c.is_heading.ensures ∙ c.if-is_heading.true) at goes_on))
+    let line = (goal.at.loop-before-preserved-then-is_heading c).After-is_heading in
+    (c.in-Some.ensures.goes.keeps, tt, rw (c.in-Some.ensures.steps.2, sym c.in-Some.ensures.steps.1) (rw (sym c.is_heading.ensures ∙ c.if-is_heading.true) at (passed line)))
 
 pub loop-before-preserved : goal.loop-before-preserved
 loop-before-preserved c =
-    let goes_on = checks_go_on c.args.text.separator (lines c.args.text.bytes.now) c.loop-before.under c.in-Some.before
-    (lines (enumerate_source c.loop-before.before-iterator).rest.now) (rw (sym c.in-Some.ensures.steps.1) at c.loop-before.invariant.2)
-    c.in-Some.bytes.now (lines (enumerate_source c.next.new.self).rest.now) c.in-Some.ensures.steps.0
-    c.kind_of-kind.result c.kind_of-kind.ensures c.check_line.result c.check_line.ensures _ (sym c.at_line.ensures ∙ c.in_ok-at_line.was) in
-    (c.in-Some.ensures.goes.keeps, tt, rw (c.in-Some.ensures.steps.2, sym c.in-Some.ensures.steps.1) (rw (sym c.is_heading.ensures ∙ c.if-is_heading.false) at goes_on))
+    let line = (goal.at.loop-before-preserved c).After-is_heading in
+    (c.in-Some.ensures.goes.keeps, tt, rw (c.in-Some.ensures.steps.2, sym c.in-Some.ensures.steps.1) (rw (sym c.is_heading.ensures ∙ c.if-is_heading.false) at (passed line)))
 
 pub returns : goal.returns
 returns c =
