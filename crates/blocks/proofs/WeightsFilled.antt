@@ -9,7 +9,8 @@ use lib.IntN.{ℤ, pos}
 use lib.ListN.{length, take, drop, replicate}
 use lib.Seq.{take-add, length-take-le}
 use Rattle.lists.proofs.Parts.{PartBack}
-use Rattle.method.specs.Triangle.{amounts_length}
+use Rattle.method.specs.Triangle.{amounts_length, cells_before}
+use Rattle.method.proofs.Positions.{row_inside, cells_before_is}
 use Rattle.blocks.specs.Blocks.{default_row, default_from, default_weights}
 
 -- ---- One row
@@ -41,63 +42,60 @@ room_after_row {n} {rows} {room} h enough =
     let sum : amounts_length (n - rows) ≡ amounts_length left + suc left = ap amounts_length more ∙ one_more_amount_row left in
     omega arith
 
--- the weights of the first rows stand in a list, so many numbers of it
-pub record WeightsFilled (n Y : ℕ) (list₀ list : List ℤ) (count rows : ℕ) : Type 0 where
+-- the weights of the first rows stand in a list with room for all
+pub record WeightsFilled (n Y : ℕ) (list₀ list : List ℤ) (rows : ℕ) : Type 0 where
   pub same_length : length list ≡ length list₀
   pub rows_within : rows ≤ n
-  pub count_within : count ≤ length list₀
-  pub room : amounts_length (n - rows) ≤ length list₀ - count
-  pub goes_on : take count list ++ default_from Y rows (n - rows) ≡ default_weights n Y
+  pub room : amounts_length n ≤ length list₀
+  pub goes_on : take (cells_before n rows) list ++ default_from Y rows (n - rows) ≡ default_weights n Y
 
-pub no_row_filled : (n Y : ℕ) (list₀ : List ℤ) → amounts_length n ≤ length list₀ → WeightsFilled n Y list₀ list₀ 0 0
+pub no_row_filled : (n Y : ℕ) (list₀ : List ℤ) → amounts_length n ≤ length list₀ → WeightsFilled n Y list₀ list₀ 0
+unfolding cells_before
 no_row_filled n Y list₀ enough =
-    let a : n - 0 ≡ n = omega arith in
-    record {
-      same_length = refl;
-      rows_within = omega arith;
-      count_within = omega arith;
-      room = omega (arith, ap amounts_length a);
-      goes_on = rw a refl;
-    }
+    let all : n - 0 ≡ n = omega arith in
+    record { same_length = refl; rows_within = omega arith; room = enough; goes_on = rw all refl }
 
-module _ {n Y : ℕ} {list₀ list : List ℤ} {count rows : ℕ} (so_far : WeightsFilled n Y list₀ list count rows) where
+module _ {n Y : ℕ} {list₀ list : List ℤ} {rows : ℕ} (so_far : WeightsFilled n Y list₀ list rows) where
   module _ (h : rows < n) where
-    pub row_fits : count + (n - rows) ≤ length list₀
-    row_fits = omega (arith, so_far.count_within, room_after_row h so_far.room)
+    pub row_fits : cells_before n rows + (n - rows) ≤ length list
+    row_fits = omega (arith, row_inside n rows h, so_far.room, so_far.same_length)
 
-    pub one_more_row : {list' : List ℤ} → length list' ≡ length list₀ → take count list' ≡ take count list
-        → take (n - rows) (drop count list') ≡ default_row (Y - (rows + 1)) (n - rows)
-        → WeightsFilled n Y list₀ list' (count + (n - rows)) (rows + 1)
-    unfolding default_from
+    pub one_more_row : {list' : List ℤ} → length list' ≡ length list₀ → take (cells_before n rows) list' ≡ take (cells_before n rows) list
+        → take (n - rows) (drop (cells_before n rows) list') ≡ default_row (Y - (rows + 1)) (n - rows)
+        → WeightsFilled n Y list₀ list' (rows + 1)
+    unfolding default_from cells_before
     one_more_row {list'} long kept filled =
         let left = n - (rows + 1) in
+        let count = cells_before n rows in
         let more : n - rows ≡ suc left = omega arith in
         let row : default_row (Y - (rows + 1)) (n - rows) ≡ default_row (Y - suc rows) (suc left) = ap₂ default_row (ap (λ r. Y - r) (add-one rows)) more in
         let unfolded : default_from Y rows (n - rows) ≡ default_row (Y - suc rows) (suc left) ++ default_from Y (suc rows) left = ap (default_from Y rows) more in
         record {
           same_length = long;
           rows_within = omega arith;
-          count_within = row_fits;
-          room = omega (arith, room_after_row h so_far.room);
+          room = so_far.room;
           goes_on =
-              ap₂ ◌++◌ (take-add count (n - rows) list' ∙ ap₂ ◌++◌ kept (filled ∙ row)) (ap (λ r. default_from Y r left) (add-one rows))
+              ap₂ ◌++◌
+              (ap (λ r. take (cells_before n r) list') (add-one rows) ∙ take-add count (n - rows) list' ∙ ap₂ ◌++◌ kept (filled ∙ row))
+              (ap (λ r. default_from Y r left) (add-one rows))
               ∙ append_assoc (take count list) (default_row (Y - suc rows) (suc left)) (default_from Y (suc rows) left)
               ∙ ap (λ rest. take count list ++ rest) (sym unfolded)
               ∙ so_far.goes_on;
         }
 
     -- with the row back in the list
-    pub row_back : {list' row : List ℤ} → PartBack list list' row count → length row ≡ n - rows
-        → row ≡ default_row (Y - (rows + 1)) (n - rows) → WeightsFilled n Y list₀ list' (count + (n - rows)) (rows + 1)
+    pub row_back : {list' row : List ℤ} → PartBack list list' row (cells_before n rows) → length row ≡ n - rows
+        → row ≡ default_row (Y - (rows + 1)) (n - rows) → WeightsFilled n Y list₀ list' (rows + 1)
     row_back {list'} {row} back long filled =
         one_more_row (back.same_length ∙ so_far.same_length) back.first_kept
-        (ap (λ (cells : ℕ). take cells (drop count list')) (sym long) ∙ back.part_there ∙ filled)
+        (ap (λ (cells : ℕ). take cells (drop (cells_before n rows) list')) (sym long) ∙ back.part_there ∙ filled)
 
-  pub all_rows_filled : n ≤ rows → take count list ≡ default_weights n Y
+  pub all_rows_filled : n ≤ rows → take (amounts_length n) list ≡ default_weights n Y
   unfolding default_from
   all_rows_filled h =
       let none : n - rows ≡ 0 = omega arith in
-      sym (append-nil (take count list)) ∙ (rw none at so_far.goes_on)
+      let all : cells_before n rows ≡ amounts_length n = omega (arith, cells_before_is n rows 0 (omega (arith, so_far.rows_within))) in
+      sym (append-nil (take (amounts_length n) list)) ∙ (rw (none, all) at so_far.goes_on)
 
-  pub all_counted : n ≤ rows → count ≡ length (default_weights n Y)
-  all_counted h = sym (length-take-le count list (omega (arith, so_far.count_within, so_far.same_length))) ∙ ap length (all_rows_filled h)
+  pub all_counted : n ≤ rows → amounts_length n ≡ length (default_weights n Y)
+  all_counted h = sym (length-take-le (amounts_length n) list (omega (arith, so_far.room, so_far.same_length))) ∙ ap length (all_rows_filled h)

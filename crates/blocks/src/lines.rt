@@ -37,6 +37,7 @@ pub fn read_lines(
     requires { LinesInput (lines below.rest.now) number shape (length list.old) }
     ensures { ReadAs (block_from separator shape number 0 (length list.old) (lines below.entry.rest.now)) result list.new }
 {
+    // Counted here: rows are only some of the lines, and how many numbers a row of openings has only its reading tells.
     let mut count = 0;
     let mut rows = 0;
     // Counted on from the heading's own line, whose number is handed in: enumerate would count anew, and the sum of both say less plainly which line it is.
@@ -101,7 +102,7 @@ fn read_of_triangle(
     )
 }
 
-// What was read of the row at the line of this number.
+// What was read of the row at the line of this number, of either shape.
 fn at_line(number: usize, read: Result<usize, WrongCell>) -> Result<usize, Fault>
     ensures { result ≡ at_line number read }
 {

@@ -5,18 +5,19 @@ ghost use Rattle.method.specs.Triangle.{amounts_length};
 ghost use Rattle.blocks.specs.Blocks as meaning;
 ghost use Rattle.blocks.specs.Blocks.{default_row};
 
+use verdicts::lengths::{amounts_length, cells_before};
+
 // Fills a list from its left with the rows of n, n − 1, … weights, and answers how many they are.
 pub fn default_weights(n: usize, cut: usize, list: &mut [i64]) -> usize
     requires { (n ≤ most_accident_years) × (amounts_length n ≤ length list.old) }
     ensures { (result ≡ length (meaning.default_weights n cut)) × (take result list.new ≡ meaning.default_weights n cut) }
 {
-    let mut count = 0;
     for rows in 0..n {
-        let end = count + (n - rows);
-        fill_row(cut.saturating_sub(rows + 1), &mut list[count..end]);
-        count = end;
+        let start = cells_before(n, rows);
+        let row = &mut list[start..start + (n - rows)];
+        fill_row(cut.saturating_sub(rows + 1), row);
     }
-    count
+    amounts_length(n)
 }
 
 fn fill_row(missing: usize, row: &mut [i64])
