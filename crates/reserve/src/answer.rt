@@ -8,7 +8,8 @@ use crate::printing::{print_line, print_two};
 use lent::Triangle;
 use printed::line::Line;
 use std::io;
-use triangle_text::reading::{SEEN_CELLS, WEIGHTED_CELLS, read_text};
+use triangle_text::reading::read_text;
+use verdicts::lengths::{SEEN_CELLS, WEIGHTED_CELLS};
 use verdicts::limits::ACCIDENT_YEARS;
 
 pub(crate) fn answer(rt: &impl Print, text: &[u8]) -> io::Result<()>

@@ -15,10 +15,10 @@ use tables::accepted::{
 };
 use tables::one_cell::{cell_column, cell_line, cell_title};
 use triangle::reading::read;
-use triangle_text::reading::{Asked, CellAsked};
+use triangle_text::reading::Asked;
 use verdicts::lengths::{WEIGHTED_CELLS, future_length};
 use verdicts::limits::ACCIDENT_YEARS;
-use verdicts::verdict::Refusal;
+use verdicts::verdict::{Place, Refusal};
 
 // A text, what it asks for, and the triangle that was read from it.
 #[derive(Clone, Copy)]
@@ -35,14 +35,14 @@ pub(crate) fn call(rt: &impl Print, read: ReadText<'_, '_>) -> io::Result<()> {
     }
 }
 
-fn call_cell(rt: &impl Print, read: ReadText<'_, '_>, cell: CellAsked) -> io::Result<()> {
+fn call_cell(rt: &impl Print, read: ReadText<'_, '_>, cell: Place) -> io::Result<()> {
     match single_cell(read.triangle, cell.accident_year, cell.development_year) {
         Ok(figures) => print_cell(rt, read.asked, cell, figures),
         Err(refusal) => print_refusal(rt, read, refusal),
     }
 }
 
-fn print_cell(rt: &impl Print, asked: Asked, cell: CellAsked, figures: Movement) -> io::Result<()> {
+fn print_cell(rt: &impl Print, asked: Asked, cell: Place, figures: Movement) -> io::Result<()> {
     let payment = figures.payment.0;
     let adjustment = figures.adjustment.0;
     let outstanding = figures.outstanding.0;

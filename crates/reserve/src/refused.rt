@@ -9,7 +9,7 @@ use refusals::found::found_at;
 use refusals::lines::{InText, in_text, refused_line, see_line, see_lines, sentence};
 use std::io;
 use triangle_text::reading::without_mark;
-use verdicts::verdict::{Place, Refusal};
+use verdicts::verdict::Refusal;
 
 pub(crate) fn print_refusal(
     rt: &impl Print,
@@ -17,14 +17,10 @@ pub(crate) fn print_refusal(
     refusal: Refusal,
 ) -> io::Result<()> {
     let found = found_at(read.triangle, refusal.place);
-    let asked = read.asked.cell.map(|cell| Place {
-        accident_year: cell.accident_year,
-        development_year: cell.development_year,
-    });
     print_two(
         rt,
         refused_line(refusal),
-        sentence(refusal, read.triangle, asked, found),
+        sentence(refusal, read.triangle, read.asked.cell, found),
     )?;
     print_where(
         rt,

@@ -9,13 +9,13 @@ use Rattle.line_kinds.specs.declared.kinds.LineKind.TheVariants.{Payments, Adjus
 use Rattle.method.specs.Limits.{most_accident_years}
 use Rattle.method.specs.Triangle.{amounts_length, weights_length}
 use Rattle.method.specs.Tests.{years_in_range, cut_in_range}
+use Rattle.verdicts.specs.declared.verdict.Place.{Place}
 use Rattle.blocks.specs.Blocks.{Block, faulty, block_from, default_weights}
 use Rattle.blocks.specs.declared.faults.Expected.{Expected}
 use Rattle.blocks.specs.declared.faults.Expected.TheVariants.{InHeading, Incremental}
 use Rattle.blocks.specs.declared.faults.Fault.{Fault}
 use Rattle.blocks.specs.declared.lines.Shape.{Shape}
 use Rattle.blocks.specs.declared.lines.Shape as shape
-use Rattle.triangle_text.specs.declared.reading.CellAsked.{CellAsked}
 use Rattle.triangle_text.specs.declared.reading.Asked.{Asked}
 use Rattle.triangle_text.specs.declared.reading.TextRead.{TextRead}
 
@@ -67,7 +67,7 @@ module _ (separator : ℕ) (all : List (List ℕ)) where
   -- ---- The whole text
 
   -- the cell that is asked for alone, where one is
-  unfoldable pub cell_in : Option CellAsked
+  unfoldable pub cell_in : Option Place
   cell_in =
       cond (is_given (line_number separator Cell all))
       (Some record { accident_year = number_after separator Cell 1 (pos 0) all; development_year = number_after separator Cell 2 (pos 0) all })

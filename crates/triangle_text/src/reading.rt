@@ -16,19 +16,9 @@ use heading_faults::first_fault;
 use headings::places::{find_heading, is_cumulated, number_after};
 use line_kinds::kinds::LineKind;
 use line_parts::cells::Text;
+use verdicts::lengths::{SEEN_CELLS, WEIGHTED_CELLS};
 use verdicts::limits::{ACCIDENT_YEARS, FEWEST_YEARS, MOST_YEARS, from_to};
-
-// Room for the seen cells of the largest triangle, and for its weights.
-pub const SEEN_CELLS: usize = 528;
-
-pub const WEIGHTED_CELLS: usize = 496;
-
-// The cell that is asked for alone.
-#[derive(Clone, Copy)]
-pub struct CellAsked {
-    pub accident_year: i64,
-    pub development_year: i64,
-}
+use verdicts::verdict::Place;
 
 // What the headings say: the number of accident years, the cut, how the amounts are to be read, whether weights are given,
 // and the cell that is asked for alone, where one is.
@@ -39,7 +29,7 @@ pub struct Asked {
     pub payments_cumulated: bool,
     pub adjustments_cumulated: bool,
     pub weights_given: bool,
-    pub cell: Option<CellAsked>,
+    pub cell: Option<Place>,
 }
 
 // What is asked, and how many numbers of each list were read. The lists are arrays with these counts beside them,
@@ -116,11 +106,11 @@ fn years_in(text: Text<'_>) -> i64
     }
 }
 
-fn cell_in(text: Text<'_>) -> Option<CellAsked>
+fn cell_in(text: Text<'_>) -> Option<Place>
     ensures { result ≡ meaning.cell_in text.entry.separator (lines text.entry.bytes.now) }
 {
     find_heading(text, LineKind::Cell)?;
-    Some(CellAsked {
+    Some(Place {
         accident_year: number_after(text, LineKind::Cell, 1, 0),
         development_year: number_after(text, LineKind::Cell, 2, 0),
     })
