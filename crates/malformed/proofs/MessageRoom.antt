@@ -1,12 +1,13 @@
 -- Every message on a malformed text has room: nothing of it is cut off, whatever was met.
 use mathlib.Core.Path.{◌≡◌, refl}
 use mathlib.Core.Bool.{true}
-use mathlib.Core.List.{List, ◌++◌, map}
+use mathlib.Core.List.{List, [], ◌++◌, map}
 use Prim.Native.Nat.{ℕ, ◌≤◌}
 use native.Mathlib.Omega.{arith}
 use borrow.Author.Tests.{leb-true}
 use lib.Dec.{leb, eqb}
 use lib.ListN.{length, take, length-append, length-map, length-take}
+use Rattle.std.specs.Prelude.{unwrap_or}
 use Rattle.figures.specs.Bytes.{bytes}
 use Rattle.heading_faults.specs.declared.HeadingFault.{HeadingFault}
 use Rattle.heading_faults.specs.declared.HeadingFault.TheVariants.{HeadingBeforeRow, FiguresInRow, KnownHeading, HeadingOnce, CumulatedOrIncremental, NothingAfterHeading, NumberAfterCut, YearsAfterCell}
@@ -17,7 +18,7 @@ use Rattle.blocks.specs.declared.faults.Expected.TheVariants.{InHeading, InCell,
 use Rattle.printed.specs.Filling.{places}
 use Rattle.printed.proofs.Room.{one_of_two, filled_fits}
 use Rattle.met_text.specs.ShownText.{shown_byte, shown_text}
-use Rattle.malformed.specs.Messages.{fault_place, expected_heading, expected_cell, expected_text, fault_line, advice_of_heading, number_advice, advice_of_cell, advice, mistake_of}
+use Rattle.malformed.specs.Messages.{fault_place, expected_heading, expected_cell, expected_text, fault_line, advice_of_heading, number_advice, advice_of_cell, advice_text, mistake_of}
 use Rattle.malformed.specs.declared.advice.Mistake.{Mistake}
 use Rattle.malformed.specs.declared.advice.Mistake.TheVariants.{Comment, SpreadsheetError, Quotes, Brackets, TypographicMinus, Word, PowerOfTen, Other}
 
@@ -76,7 +77,7 @@ fault_line_fits line cell expected met =
 
 -- ---- The second line
 
-heading_advice_fits : (fault : HeadingFault) → leb (length (advice_of_heading fault)) 511 ≡ true
+heading_advice_fits : (fault : HeadingFault) → leb (length (unwrap_or (advice_of_heading fault) [])) 511 ≡ true
 heading_advice_fits HeadingBeforeRow = refl
 heading_advice_fits FiguresInRow = refl
 heading_advice_fits KnownHeading = refl
@@ -96,7 +97,7 @@ number_advice_fits Word = refl
 number_advice_fits PowerOfTen = refl
 number_advice_fits Other = refl
 
-cell_advice_fits : (fault : CellFault) (met : List ℕ) → leb (length (advice_of_cell fault met)) 511 ≡ true
+cell_advice_fits : (fault : CellFault) (met : List ℕ) → leb (length (unwrap_or (advice_of_cell fault met) [])) 511 ≡ true
 cell_advice_fits NoFurtherOpening met = refl
 cell_advice_fits NumberForBlank met = refl
 cell_advice_fits WholeNumber met = number_advice_fits (mistake_of met)
@@ -104,7 +105,7 @@ cell_advice_fits SixtyFourBits met = refl
 cell_advice_fits DifferenceOfSixtyFourBits met = refl
 cell_advice_fits RowEnd met = refl
 
-pub advice_fits : (expected : Expected) (met : List ℕ) → leb (length (advice expected met)) 511 ≡ true
+pub advice_fits : (expected : Expected) (met : List ℕ) → leb (length (advice_text expected met)) 511 ≡ true
 advice_fits (InHeading fault) met = heading_advice_fits fault
 advice_fits (InCell fault) met = cell_advice_fits fault met
 advice_fits Incremental met = refl

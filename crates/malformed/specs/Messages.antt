@@ -1,5 +1,5 @@
 -- What is printed of a malformed text. docs/FORMAT.md has the tables of these messages.
-use Rattle.std.specs.Prelude.{◌||◌, cond, List, [], ◌∷◌, ◌++◌, ℕ, eqb, length, get_or}
+use Rattle.std.specs.Prelude.{◌||◌, cond, List, [], ◌∷◌, ◌++◌, ℕ, eqb, length, get_or, Option, Some, None, unwrap_or}
 use Prim.Native.Char.{code}
 use Rattle.figures.specs.Bytes.{bytes}
 use Rattle.text.specs.Bytes.{space, number_sign, is_letter}
@@ -12,6 +12,8 @@ use Rattle.blocks.specs.declared.faults.Expected.{Expected}
 use Rattle.blocks.specs.declared.faults.Expected.TheVariants.{InHeading, InCell, Incremental, NoFurtherRow}
 use Rattle.printed.specs.Counts.{as_number}
 use Rattle.printed.specs.Filling.{filled}
+use Rattle.printed.specs.Line.{LineIs}
+use Rattle.printed.specs.declared.line.Line.{Line}
 use Rattle.met_text.specs.ShownText.{shown_text}
 use Rattle.malformed.specs.declared.advice.Mistake.{Mistake}
 use Rattle.malformed.specs.declared.advice.Mistake.TheVariants.{Comment, SpreadsheetError, Quotes, Brackets, TypographicMinus, Word, PowerOfTen, Other}
@@ -51,17 +53,17 @@ expected_text NoFurtherRow = bytes "expected no further row"
 unfoldable pub fault_line : ℕ → ℕ → Expected → List ℕ → List ℕ
 fault_line line cell expected met = fault_place line cell ++ (expected_text expected ++ (bytes ", and met " ++ shown_text met))
 
--- ---- The second line, which is empty where there is nothing to say
+-- ---- The second line, where there is something to say
 
-abbrev pub advice_of_heading : HeadingFault → List ℕ
-advice_of_heading HeadingBeforeRow = bytes "Headings of columns, and whatever else stands above the figures, begin with # and a space, without quotes."
-advice_of_heading FiguresInRow = bytes "An empty row of a spreadsheet is written like this: fill in its figures or take it out."
-advice_of_heading KnownHeading = bytes "A heading is such as paid cumulated. A row has figures only: no accident year, no word, no totals. Anything else begins with # and a space."
-advice_of_heading HeadingOnce = []
-advice_of_heading CumulatedOrIncremental = bytes "Cumulated figures are sums along their row so far, incremental ones those of one development year each."
-advice_of_heading NothingAfterHeading = []
-advice_of_heading NumberAfterCut = []
-advice_of_heading YearsAfterCell = []
+abbrev pub advice_of_heading : HeadingFault → Option (List ℕ)
+advice_of_heading HeadingBeforeRow = Some (bytes "Headings of columns, and whatever else stands above the figures, begin with # and a space, without quotes.")
+advice_of_heading FiguresInRow = Some (bytes "An empty row of a spreadsheet is written like this: fill in its figures or take it out.")
+advice_of_heading KnownHeading = Some (bytes "A heading is such as paid cumulated. A row has figures only: no accident year, no word, no totals. Anything else begins with # and a space.")
+advice_of_heading HeadingOnce = None
+advice_of_heading CumulatedOrIncremental = Some (bytes "Cumulated figures are sums along their row so far, incremental ones those of one development year each.")
+advice_of_heading NothingAfterHeading = None
+advice_of_heading NumberAfterCut = None
+advice_of_heading YearsAfterCell = None
 
 -- A cell that begins with #: a comment that lacks a space before it, or a spreadsheet's error.
 unfoldable pub after_number_sign : List ℕ → Mistake
@@ -88,16 +90,27 @@ number_advice Word = bytes "A word is no figure. A cell is blank only where the 
 number_advice PowerOfTen = bytes "Show the figure in full: no power of ten, no currency and no other letters."
 number_advice Other = bytes "Figures are whole units: digits, a - before them where they are negative, no decimals and no thousands marks."
 
-abbrev pub advice_of_cell : CellFault → List ℕ → List ℕ
-advice_of_cell NoFurtherOpening met = []
-advice_of_cell NumberForBlank met = bytes "Is there a row of totals or of development years? It counts as an accident year, and every row then wants one figure more."
-advice_of_cell WholeNumber met = number_advice (mistake_of met)
-advice_of_cell SixtyFourBits met = []
-advice_of_cell DifferenceOfSixtyFourBits met = []
-advice_of_cell RowEnd met = bytes "A row has no accident year before its figures, no total behind them, and nothing below the diagonal, also no 0."
+abbrev pub advice_of_cell : CellFault → List ℕ → Option (List ℕ)
+advice_of_cell NoFurtherOpening met = None
+advice_of_cell NumberForBlank met = Some (bytes "Is there a row of totals or of development years? It counts as an accident year, and every row then wants one figure more.")
+advice_of_cell WholeNumber met = Some (number_advice (mistake_of met))
+advice_of_cell SixtyFourBits met = None
+advice_of_cell DifferenceOfSixtyFourBits met = None
+advice_of_cell RowEnd met = Some (bytes "A row has no accident year before its figures, no total behind them, and nothing below the diagonal, also no 0.")
 
-abbrev pub advice : Expected → List ℕ → List ℕ
+abbrev pub advice : Expected → List ℕ → Option (List ℕ)
 advice (InHeading fault) met = advice_of_heading fault
 advice (InCell fault) met = advice_of_cell fault met
-advice Incremental met = []
-advice NoFurtherRow met = bytes "There are as many rows as rows of payments, and of weights one less. A row of totals is left out."
+advice Incremental met = None
+advice NoFurtherRow met = Some (bytes "There are as many rows as rows of payments, and of weights one less. A row of totals is left out.")
+
+-- as it is printed: nothing where there is nothing to say
+abbrev pub advice_text : Expected → List ℕ → List ℕ
+advice_text expected met = unwrap_or (advice expected met) []
+
+-- The answer on what to do: a line of this text, where there is one.
+abbrev pub AdviceIs : Option (List ℕ) → Option Line → Type 0
+AdviceIs None None = Unit
+AdviceIs None (Some line) = ⊥
+AdviceIs (Some text) None = ⊥
+AdviceIs (Some text) (Some line) = LineIs text line

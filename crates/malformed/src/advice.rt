@@ -1,47 +1,48 @@
-// What to do about a fault of a text.
+// What to do about a fault of a text, where there is something to say.
 ghost use Rattle.std.specs.Prelude.{◌≡◌};
+ghost use Rattle.std.specs.Option.{option_copied};
 ghost use Rattle.malformed.specs.Messages as meaning;
 
 use heading_faults::HeadingFault;
 use row_text::entries::CellFault;
 
-pub(crate) fn advice_of_heading(fault: HeadingFault) -> &'static [u8]
-    ensures { result.now ≡ meaning.advice_of_heading fault }
+pub(crate) fn advice_of_heading(fault: HeadingFault) -> Option<&'static [u8]>
+    ensures { option_copied result ≡ meaning.advice_of_heading fault }
 {
     match fault {
-        HeadingFault::HeadingBeforeRow => {
-            b"Headings of columns, and whatever else stands above the figures, begin with # and a space, without quotes."
-        }
-        HeadingFault::FiguresInRow => {
-            b"An empty row of a spreadsheet is written like this: fill in its figures or take it out."
-        }
-        HeadingFault::KnownHeading => {
-            b"A heading is such as paid cumulated. A row has figures only: no accident year, no word, no totals. Anything else begins with # and a space."
-        }
-        HeadingFault::CumulatedOrIncremental => {
-            b"Cumulated figures are sums along their row so far, incremental ones those of one development year each."
-        }
+        HeadingFault::HeadingBeforeRow => Some(
+            b"Headings of columns, and whatever else stands above the figures, begin with # and a space, without quotes.",
+        ),
+        HeadingFault::FiguresInRow => Some(
+            b"An empty row of a spreadsheet is written like this: fill in its figures or take it out.",
+        ),
+        HeadingFault::KnownHeading => Some(
+            b"A heading is such as paid cumulated. A row has figures only: no accident year, no word, no totals. Anything else begins with # and a space.",
+        ),
+        HeadingFault::CumulatedOrIncremental => Some(
+            b"Cumulated figures are sums along their row so far, incremental ones those of one development year each.",
+        ),
         HeadingFault::HeadingOnce
         | HeadingFault::NothingAfterHeading
         | HeadingFault::NumberAfterCut
-        | HeadingFault::YearsAfterCell => b"",
+        | HeadingFault::YearsAfterCell => None,
     }
 }
 
-pub(crate) fn advice_of_cell(fault: CellFault, met: &[u8]) -> &'static [u8]
-    ensures { result.now ≡ meaning.advice_of_cell fault met.now }
+pub(crate) fn advice_of_cell(fault: CellFault, met: &[u8]) -> Option<&'static [u8]>
+    ensures { option_copied result ≡ meaning.advice_of_cell fault met.now }
 {
     match fault {
-        CellFault::NumberForBlank => {
-            b"Is there a row of totals or of development years? It counts as an accident year, and every row then wants one figure more."
-        }
-        CellFault::WholeNumber => number_advice(mistake_of(met)),
-        CellFault::RowEnd => {
-            b"A row has no accident year before its figures, no total behind them, and nothing below the diagonal, also no 0."
-        }
+        CellFault::NumberForBlank => Some(
+            b"Is there a row of totals or of development years? It counts as an accident year, and every row then wants one figure more.",
+        ),
+        CellFault::WholeNumber => Some(number_advice(mistake_of(met))),
+        CellFault::RowEnd => Some(
+            b"A row has no accident year before its figures, no total behind them, and nothing below the diagonal, also no 0.",
+        ),
         CellFault::NoFurtherOpening
         | CellFault::SixtyFourBits
-        | CellFault::DifferenceOfSixtyFourBits => b"",
+        | CellFault::DifferenceOfSixtyFourBits => None,
     }
 }
 

@@ -1,7 +1,9 @@
 // What is printed of a malformed text: where the fault is, what was expected there and what was met, and what to do about it.
 ghost use Rattle.std.specs.Prelude.{◌≡◌};
+ghost use Rattle.std.specs.Option.{option_copied};
 ghost use Rattle.printed.specs.Line.{LineIs};
 ghost use Rattle.malformed.specs.Messages as meaning;
+ghost use Rattle.malformed.specs.Messages.{AdviceIs};
 
 use crate::advice::{advice_of_cell, advice_of_heading};
 use blocks::faults::{Expected, Fault};
@@ -20,7 +22,7 @@ pub fn fault_line(fault: Fault, met: &[u8]) -> Line
     with_shown(expected.with_text(b", and met "), met)
 }
 
-// The cell is 0 where the whole line is meant.
+// The cell is 0 where the whole line is meant, and no Option: a fault has that number.
 #[tactic(auto, unfolding(crate::specs::Messages::fault_place))]
 fn fault_place(line: usize, cell: usize) -> Line
     ensures { LineIs (meaning.fault_place line cell) result }
@@ -83,22 +85,22 @@ fn expected_cell(fault: CellFault) -> &'static [u8]
     }
 }
 
-// The second line: what to do; empty where there is nothing to say.
-pub fn advice(expected: Expected, met: &[u8]) -> Line
-    ensures { LineIs (meaning.advice expected met.now) result }
+// The second line: what to do, where there is something to say.
+pub fn advice(expected: Expected, met: &[u8]) -> Option<Line>
+    ensures { AdviceIs (meaning.advice expected met.now) result }
 {
-    Line::of(advice_text(expected, met))
+    Some(Line::of(advice_text(expected, met)?))
 }
 
-fn advice_text(expected: Expected, met: &[u8]) -> &'static [u8]
-    ensures { result.now ≡ meaning.advice expected met.now }
+fn advice_text(expected: Expected, met: &[u8]) -> Option<&'static [u8]>
+    ensures { option_copied result ≡ meaning.advice expected met.now }
 {
     match expected {
         Expected::InHeading(fault) => advice_of_heading(fault),
         Expected::InCell(fault) => advice_of_cell(fault, met),
-        Expected::Incremental => b"",
-        Expected::NoFurtherRow => {
-            b"There are as many rows as rows of payments, and of weights one less. A row of totals is left out."
-        }
+        Expected::Incremental => None,
+        Expected::NoFurtherRow => Some(
+            b"There are as many rows as rows of payments, and of weights one less. A row of totals is left out.",
+        ),
     }
 }

@@ -8,6 +8,7 @@ use text::lines::line_at;
 use text::search::{find, from};
 
 // At this line and cell of a text, which count from 1. The cell is 0 where the whole line is meant.
+// It is no Option: a fault of a text has that number, in FORMAT.md's definition and its worked texts.
 #[tactic(auto, unfolding(crate::specs::Met::met_at))]
 pub fn met_at(text: &[u8], line: usize, cell: usize) -> &[u8]
     ensures { result.now ≡ meaning.met_at line cell text.now }

@@ -10,9 +10,8 @@ use triangle_text::reading::without_mark;
 pub(crate) fn print_fault(rt: &impl Print, text: &[u8], fault: Fault) -> io::Result<()> {
     let met = met_at(without_mark(text), fault.line, fault.cell);
     let first = fault_line(fault, met);
-    let second = advice(fault.expected, met);
-    if second.length == 0 {
-        return print_line(rt, first);
+    match advice(fault.expected, met) {
+        Some(second) => print_two(rt, first, second),
+        None => print_line(rt, first),
     }
-    print_two(rt, first, second)
 }
