@@ -43,6 +43,7 @@ pub fn development_of(triangle: Triangle<'_>) -> Development
     let n = triangle.years as usize;
     let mut ratios = [NO_SUMS; DEVELOPMENT_YEARS];
     let mut outstandings = first_outstandings(n, triangle);
+    // By k: a zip knows nothing of the list that it writes, and k is asked for too.
     for k in 1..n {
         ratios[k - 1] = development_year(n, k, triangle, &mut outstandings);
     }
@@ -58,6 +59,7 @@ fn first_outstandings(n: usize, triangle: Triangle<'_>) -> [i64; ACCIDENT_YEARS]
     ensures { FirstOutstandings n triangle.entry.payments.now triangle.entry.adjustments.now triangle.entry.openings.now result }
 {
     let mut outstandings = [0; ACCIDENT_YEARS];
+    // By r: a zip knows nothing of the list that it writes.
     for r in 0..n {
         let start = cells_before(n, r);
         outstandings[r] = next_outstanding(
@@ -82,6 +84,7 @@ fn development_year(
 {
     let mut sums = NO_SUMS;
     // Each row is entered at year k of its weights and at year k + 1 of its amounts. The weights have a row less.
+    // Both places are moved on by one addition a cell, where `cells_before` would take two products.
     let mut weight_at = k - 1;
     let mut amount_at = k;
     for r in 0..n - k {
