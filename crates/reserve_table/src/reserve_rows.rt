@@ -81,6 +81,7 @@ impl ReserveTable<'_> {
     }
 
     // The width of the widest entry: a figure, a total or the widest heading.
+    #[tactic(auto, unfolding(crate::specs::ReserveRows::reserves_column))]
     pub fn column(&self) -> usize
         ensures { result ≡ meaning.reserves_column self.now.n self.now.outstandings self.now.reserves.now }
     {
@@ -91,6 +92,7 @@ impl ReserveTable<'_> {
         observed.max(paid).max(incurred.max(closing).max(19))
     }
 
+    #[tactic(auto, unfolding(crate::specs::ReserveRows::outstandings_width))]
     fn outstandings_width(&self) -> usize
         ensures { result ≡ meaning.outstandings_width self.now.outstandings self.now.n }
     {
@@ -102,6 +104,7 @@ impl ReserveTable<'_> {
         )
     }
 
+    #[tactic(auto, unfolding(crate::specs::ReserveRows::reserves_width))]
     fn reserves_width(&self, figure: ReserveFigure) -> usize
         ensures { result ≡ meaning.reserves_width self.now.reserves.now (reserve_place figure) self.now.n }
     {

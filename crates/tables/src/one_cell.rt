@@ -18,6 +18,7 @@ pub fn cell_title(accident_year: i64, development_year: i64) -> Line
 }
 
 // The width of the widest of three figures, in millionths.
+#[tactic(auto, using(integers::proofs::MachineArithmetic::held), unfolding(crate::specs::OneCell::cell_column))]
 pub fn cell_column(payment: i64, adjustment: i64, outstanding: i64) -> usize
     ensures { result ≡ meaning.cell_column payment adjustment outstanding }
 {
@@ -28,6 +29,7 @@ pub fn cell_column(payment: i64, adjustment: i64, outstanding: i64) -> usize
 }
 
 // One of the figures after its name, in millionths.
+#[tactic(auto, using(integers::proofs::MachineArithmetic::held, printed::proofs::LineTexts::line_after), unfolding(crate::specs::OneCell::cell_line))]
 pub fn cell_line(figure: FutureFigure, millionths: i64, column: usize) -> Line
     ensures { LineIs (meaning.cell_line figure millionths column) result }
 {

@@ -55,6 +55,7 @@ fn years_label(k: usize) -> Line
 }
 
 // The width of the widest sum, or of a heading.
+#[tactic(auto, unfolding(crate::specs::SumsRows::sums_column))]
 pub fn sums_column(n: usize, ratios: [Sums; DEVELOPMENT_YEARS]) -> usize
     requires { n ≤ most_accident_years }
     ensures { result ≡ meaning.sums_column n ratios }
