@@ -31,6 +31,7 @@ impl<'a> From<Triangle<'a>> for ObservedLists<'a> {
 
 impl ObservedLists<'_> {
     // The outstanding of a cell's accident year at the end of its development year, where the row is within the limits of questions 5 and 6.
+    #[tactic(auto, using(integers::proofs::MachineArithmetic::held, crate::proofs::OutstandingsOfRow::before_first_year))]
     pub fn outstanding_at(self, cell: Cell) -> i64
         ensures { OutstandingAt (outstandings_of cell.n self.entry) cell.accident_year cell.development_year result }
     {
@@ -50,6 +51,7 @@ impl ObservedLists<'_> {
 }
 
 // outstanding − payment + adjustment, where neither step passes 64 bits; else some number.
+#[tactic(auto, using(integers::proofs::MachineArithmetic::held, crate::proofs::OutstandingsOfRow::moved_exactly))]
 fn moved(outstanding: i64, payment: i64, adjustment: i64) -> i64
     ensures { MovedTo outstanding payment adjustment result }
 {

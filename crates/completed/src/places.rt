@@ -45,6 +45,7 @@ impl ReserveFigure {
 
 impl Cell {
     // This cell in a list whose rows have n, n − 1, … cells; 0 where the list has ended.
+    #[tactic(auto, using(integers::proofs::MachineArithmetic::held, method::proofs::Positions::row_inside, verdicts::proofs::Counts::few_cells, crate::proofs::PlacesInLists::cell_at_place))]
     pub fn number_in(self, list: &[i64]) -> i64
         ensures { result ≡ cell (pos 0) self.n list.now self.accident_year self.development_year }
     {
@@ -53,6 +54,7 @@ impl Cell {
     }
 
     // One of the three figures of this cell, which is unseen, in the future list; 0 where the list has ended.
+    #[tactic(auto, using(integers::proofs::MachineArithmetic::held, crate::proofs::PlacesInLists::future_figure_at_place))]
     pub(crate) fn figure_in(self, future: &[i64], figure: FutureFigure) -> i64
         requires { self.n + 1 < self.accident_year + self.development_year }
         ensures { result ≡ cell_figure self.n future.now (future_place figure) self.accident_year (self.development_year - 1) }
@@ -65,6 +67,7 @@ impl Cell {
 }
 
 // One of the three figures of accident year i in the reserve list; 0 where the list has ended.
+#[tactic(auto, using(integers::proofs::MachineArithmetic::held), unfolding(method::specs::AnswerPlaces::year_figure))]
 pub fn reserve_at(reserves: &[i64], figure: ReserveFigure, i: usize) -> i64
     requires { i ≤ most_accident_years }
     ensures { result ≡ year_figure reserves.now (reserve_place figure) i }

@@ -25,6 +25,7 @@ pub struct CompletedLists<'a> {
 
 impl<'a> CompletedLists<'a> {
     // A payment or an adjustment, of its list and as a figure of the future list.
+    #[tactic(auto, using(integers::proofs::MachineArithmetic::held), unfolding(crate::specs::Completed::amount_in))]
     pub fn amount_shown(self, list: &'a [i64], figure: FutureFigure, cell: Cell) -> Shown
         ensures { result ≡ amount_in cell.n self.entry.cut list.now self.entry.future.now (future_place figure) cell.accident_year cell.development_year }
     {
@@ -39,6 +40,7 @@ impl<'a> CompletedLists<'a> {
     }
 
     // The outstanding at the end of the year. That of an opening's cell, whose years add up to the cut, is known.
+    #[tactic(auto, using(integers::proofs::MachineArithmetic::held))]
     pub fn outstanding_shown(self, cell: Cell) -> Shown
         ensures { OutstandingShown cell.n self.entry.cut
             (outstandings_of cell.n self.entry.observed)

@@ -36,6 +36,7 @@ pub fn table_title(table: Table) -> Line
 }
 
 // The last development year of the part that follows `before` years: as many as stay within 120 bytes, and one at least.
+#[tactic(auto, unfolding(crate::specs::CompletedRows::last_in_part))]
 pub fn last_in_part(n: usize, before: usize, column: usize) -> usize
     requires { (before < n) × (n ≤ most_accident_years) }
     ensures { (before < result) × (result ≤ n) × (result ≡ meaning.last_in_part n before column) }
@@ -90,12 +91,14 @@ impl CompletedTable<'_> {
     }
 
     // The width of the widest entry. No heading of a column is as wide as a projected figure.
+    #[tactic(auto, unfolding(crate::specs::CompletedRows::completed_column))]
     pub fn column(self) -> usize
         ensures { ColumnIs self.entry.n self.entry.lists self.entry.table result }
     {
         widest(0, 1..self.n + 1, |i| self.widest_in_row(i))
     }
 
+    #[tactic(auto, unfolding(crate::specs::CompletedRows::row_width))]
     fn widest_in_row(self, i: usize) -> usize
         requires { (1 ≤ i) × (i ≤ self.n) }
         ensures { RowWidthIs self.entry.n self.entry.lists self.entry.table i result }

@@ -2,13 +2,8 @@
 use mathlib.Core.Path.{◌∙◌}
 use mir.Facts.{sfits_to_z}
 use Rattle.integers.proofs.MachineArithmetic.{held}
-use Rattle.completed.proofs.OutstandingsOfRow.{before_first_year, next_year}
+use Rattle.completed.proofs.OutstandingsOfRow.{next_year}
 use Rattle.completed.proofs.outstanding.ObservedLists.outstanding_at.Goals as goal
-
-pub loop-before-init : goal.loop-before-init
-loop-before-init c =
-    let opening = c.opening_of-outstanding in
-    before_first_year _ _ _ c.args.cell.inside.first (held opening.result opening.type_inv ∙ opening.ensures)
 
 pub loop-before-preserved : goal.loop-before-preserved
 loop-before-preserved c =
