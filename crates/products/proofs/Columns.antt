@@ -1,5 +1,5 @@
 -- The product of two numbers of 64 bits, in columns of 32: as it is multiplied by hand.
-use Rattle.std.proofs.Common.{◌≡◌, ℕ, ◌+◌, ◌*◌, ◌/◌, ◌%◌, ◌^◌, ◌<◌, ◌≤◌, sym, ap, ◌∙◌, ap₂, mul-le-mul, div-add-mod', arith}
+use Rattle.std.proofs.Common.{◌≡◌, ℕ, ◌+◌, ◌*◌, ◌/◌, ◌%◌, ◌^◌, sym, ap, ◌∙◌, ap₂, div-add-mod', arith}
 
 abbrev column : ℕ
 column = 2 ^ 32
@@ -36,25 +36,3 @@ module _ (u v : ℕ) where
   low_product_is =
       lower_columns (u / column * (v / column)) (u / column * (v % column)) (u % column * (v / column)) (u % column * (v % column))
       ∙ ap (λ t. t % 2 ^ 64) (sym (by_columns u v))
-
--- ---- Within 64 bits
-
-abbrev greatest_column_product : ℕ
-greatest_column_product = 18_446_744_065_119_617_025
-
-column_product-≤ : {x y : ℕ} → x < column → y < column → x * y ≤ greatest_column_product
-column_product-≤ {x} {y} h k = mul-le-mul {n₁ = x} {m₁ = y} {n₂ = 4_294_967_295} {m₂ = 4_294_967_295} (omega arith) (omega arith)
-
-pub record ColumnProducts (u v : ℕ) : Type 0 where
-  pub upper-≤ : u / column * (v / column) ≤ greatest_column_product
-  pub crossed-≤ : u / column * (v % column) ≤ greatest_column_product
-  pub crossed'-≤ : u % column * (v / column) ≤ greatest_column_product
-  pub lower-≤ : u % column * (v % column) ≤ greatest_column_product
-
-pub column_products-≤ : {u v : ℕ} → u < 2 ^ 64 → v < 2 ^ 64 → ColumnProducts u v
-column_products-≤ {u} {v} h k = record {
-  upper-≤ = column_product-≤ (omega arith) (omega arith);
-  crossed-≤ = column_product-≤ (omega arith) (omega arith);
-  crossed'-≤ = column_product-≤ (omega arith) (omega arith);
-  lower-≤ = column_product-≤ (omega arith) (omega arith);
-}

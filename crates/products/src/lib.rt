@@ -8,6 +8,7 @@ ghost use Rattle.std.specs.Prelude.{◌≡◌, ◌*◌, ◌/◌, ◌%◌, ◌^�
 const COLUMN: u64 = 4_294_967_296;
 
 // u × v / 2^64, cut: the upper half.
+#[tactic(auto, using(crate::proofs::Columns::high_product_is))]
 pub fn high_product(u: u64, v: u64) -> u64
     ensures { result ≡ u * v / 2 ^ 64 }
 {
@@ -21,6 +22,7 @@ pub fn high_product(u: u64, v: u64) -> u64
 }
 
 // u × v % 2^64: the lower half.
+#[tactic(auto, using(crate::proofs::Columns::low_product_is))]
 pub fn low_product(u: u64, v: u64) -> u64
     ensures { result ≡ u * v % 2 ^ 64 }
 {
@@ -29,5 +31,5 @@ pub fn low_product(u: u64, v: u64) -> u64
     let v1 = v / COLUMN;
     let v0 = v % COLUMN;
     let crossed = u1 * v0 % COLUMN + u0 * v1 % COLUMN;
-    std::num::wrapping_add_u64(u0 * v0, crossed % COLUMN * COLUMN)
+    (u0 * v0).wrapping_add(crossed % COLUMN * COLUMN)
 }

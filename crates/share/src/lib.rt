@@ -31,6 +31,7 @@ pub fn rounded_share(outstanding: Millionths, ratio: Ratio, exposure: u64) -> Op
 }
 
 // A share of this value, where its size is within the limit of question 9.
+#[tactic(auto, using(crate::proofs::Answers::tested_is))]
 fn limited(value: i64) -> Option<Millionths>
     ensures { result ≡ share_or_too_large value }
 {
