@@ -27,7 +27,7 @@ is_whole (the z) = true
 is_whole none = false
 
 -- the float of a whole number: up to 2^53 in size it is that number, and of 0 it is plus zero
--- Laws: `float_exact` and `float_not_minus_zero` in proofs/ExactFloats.antt.
+-- Laws: `float_exact`, `float_of_zero` and `float_not_minus_zero` in proofs/ExactFloats.antt.
 abbrev pub float_of : ℤ → Float
 float_of z = of_int binary64 z
 

@@ -28,7 +28,7 @@ pub fn write_pairs(amounts: &[i64], list: &mut [f64])
 }
 
 // Units count downward for a negative amount, so that its millionths are from 0 to 999,999.
-// No i64 has more than 2^53 units, so both casts are exact for every amount.
+// No i64 has more than 2^53 units (law `amount_of_64_bits` of the crate `workbook`), so both casts are exact for every amount.
 fn pair_of(amount: i64) -> Pair
     ensures { result ≡ pair_of amount }
 {

@@ -122,7 +122,7 @@ module _ (t : PreparedTriangle) {i : ℕ} (y : AccidentYear t.n i) where
       ))
 
   module _ {j : ℕ} {s : RowState} (r : RowSoFar m i j s) where
-    projected_is : s.projected ≡ j
+    pub projected_is : s.projected ≡ j
     unfolding row_state
     projected_is = ap (λ (x : RowState). x.projected) r.state_is
 

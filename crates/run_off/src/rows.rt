@@ -77,10 +77,10 @@ pub fn project_row<D: Destination>(
 {
     let mut state = RowState::first(triangle.outstandings[i - 1]);
     for projected in 0..i - 1 {
-        let year = triangle.years[state.place_of_next_year(triangle.n, i)];
-        let Some(movement) = state.next_year(year) else {
-            let k = triangle.n - i + projected + 2;
-            return Err(refusal_at(Question::ProjectedFigure, i, k));
+        // The year from k to k + 1 stands at k − 1, and a refusal is told at k + 1.
+        let place = state.place_of_next_year(triangle.n, i);
+        let Some(movement) = state.next_year(triangle.years[place]) else {
+            return Err(refusal_at(Question::ProjectedFigure, i, place + 2));
         };
         destination.write(list, projected, movement);
         state = state.with_year(movement);
