@@ -8,6 +8,7 @@ pub const ROOM: usize = 32;
 // A text: `width` bytes, set to the right in its room, with spaces before them.
 // It is made from its last digit on, and is copied freely: a vector of the library grows at its end only, and is no Copy.
 // No Display writes it: that has a Result, and a number is written without fail.
+// No ghost field bounds the width: the definition `written` makes one of a text of any length, and room is asked where a text is set before it.
 #[derive(Clone, Copy)]
 pub struct Written {
     pub bytes: [u8; ROOM],
@@ -113,6 +114,7 @@ impl Written {
     }
 
     // Where there is no room left, the text stays as it is.
+    #[tactic(auto, using(crate::proofs::TextsBefore::byte_stored))]
     fn with_byte_before(mut self, byte: u8) -> Written
         ensures { Before (byte ∷ []) self result }
     {
