@@ -51,14 +51,22 @@ fn years_in_part(column: usize) -> usize
     107 / column.saturating_add(2)
 }
 
-// The heading of a part: its development years, after those that are before it and up to the last.
-pub fn years_heading(before: usize, last: usize, column: usize) -> Line
-    requires { last ≤ most_accident_years }
-    ensures { LineIs (meaning.years_heading before last column) result }
+// A part of the tables: its development years, after those that are before it and up to the last, and the width of its columns.
+#[derive(Clone, Copy)]
+pub struct Part {
+    pub before: usize,
+    pub last: usize,
+    pub column: usize,
+}
+
+// The heading of a part: its development years.
+pub fn years_heading(part: Part) -> Line
+    requires { part.last ≤ most_accident_years }
+    ensures { LineIs (meaning.years_heading part.before part.last part.column) result }
 {
     let mut line = Line::of(b"accident year");
-    for k in before..last {
-        line = line.with_entry(whole(signed(k + 1)).text(), column);
+    for k in part.before..part.last {
+        line = line.with_entry(whole(signed(k + 1)).text(), part.column);
     }
     line
 }
@@ -74,18 +82,18 @@ pub struct CompletedTable<'a> {
 
 impl CompletedTable<'_> {
     // The row of accident year i in a part.
-    pub fn row(self, i: usize, before: usize, last: usize, column: usize) -> Line
-        requires { (1 ≤ i) × (i ≤ self.n) × (last ≤ self.n) }
-        ensures { RowShown self.entry.n self.entry.lists self.entry.table i before last column result }
+    pub fn row(self, i: usize, part: Part) -> Line
+        requires { (1 ≤ i) × (i ≤ self.n) × (part.last ≤ self.n) }
+        ensures { RowShown self.entry.n self.entry.lists self.entry.table i part.before part.last part.column result }
     {
         let mut line = label(i, 13);
-        for k in before..last {
+        for k in part.before..part.last {
             let cell = Cell {
                 n: self.n,
                 accident_year: i,
                 development_year: k + 1,
             };
-            line = with_shown(line, self.shown_in(cell), column);
+            line = with_shown(line, self.shown_in(cell), part.column);
         }
         line
     }
@@ -119,7 +127,7 @@ impl CompletedTable<'_> {
         )
     }
 
-    // What stands in a cell.
+    // What stands in a cell. A table is a kind that is printed too, and no step to run: each arm names what it is read from.
     fn shown_in(self, cell: Cell) -> Shown
         ensures { CellShown cell.n self.entry.lists self.entry.table cell.accident_year cell.development_year result }
     {

@@ -63,6 +63,7 @@ fn is_no_text(text: &[u8]) -> bool {
 }
 
 // A text that was read is answered by a call, or by its first fault.
+// Its lists have fixed room, with their counts beside: into lists that grow, a reading could fail for want of memory.
 fn answer_text(rt: &impl Print, text: &[u8]) -> io::Result<()>
     requires { length text.now ≤ longest_text }
 {

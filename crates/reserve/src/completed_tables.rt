@@ -5,7 +5,7 @@ ghost use Rattle.method.specs.Limits.{most_accident_years};
 use crate::printing::{print_empty_line, print_line};
 use completed::shown::CompletedLists;
 use completed_table::completed_rows::{
-    CompletedTable, Table, last_in_part, table_title, years_heading,
+    CompletedTable, Part, Table, last_in_part, table_title, years_heading,
 };
 use std::io;
 
@@ -30,34 +30,36 @@ fn print_table(rt: &impl Print, table: CompletedTable<'_>) -> io::Result<()> {
     let mut before = 0;
     while before < table.n {
         let last = last_in_part(table.n, before, column);
-        print_part(rt, table, before, last, column)?;
+        print_part(
+            rt,
+            table,
+            Part {
+                before,
+                last,
+                column,
+            },
+        )?;
         before = last;
     }
     Ok(())
 }
 
 // A part, with an empty line before it unless it is the first.
-fn print_part(
-    rt: &impl Print,
-    table: CompletedTable<'_>,
-    before: usize,
-    last: usize,
-    column: usize,
-) -> io::Result<()>
-    requires { last ≤ table.n }
+fn print_part(rt: &impl Print, table: CompletedTable<'_>, part: Part) -> io::Result<()>
+    requires { part.last ≤ table.n }
 {
-    print_years(rt, before, last, column)?;
+    print_years(rt, part)?;
     for i in 1..table.n + 1 {
-        print_line(rt, table.row(i, before, last, column))?;
+        print_line(rt, table.row(i, part))?;
     }
     Ok(())
 }
 
-fn print_years(rt: &impl Print, before: usize, last: usize, column: usize) -> io::Result<()>
-    requires { last ≤ most_accident_years }
+fn print_years(rt: &impl Print, part: Part) -> io::Result<()>
+    requires { part.last ≤ most_accident_years }
 {
-    if before > 0 {
+    if part.before > 0 {
         print_empty_line(rt)?;
     }
-    print_line(rt, years_heading(before, last, column))
+    print_line(rt, years_heading(part))
 }

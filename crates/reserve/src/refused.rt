@@ -41,13 +41,13 @@ fn print_where(rt: &impl Print, text: Text<'_>, wrong: InText, i: usize) -> io::
             let heading = find_heading(text, LineKind::Openings);
             print_see(rt, heading.map(|heading| heading.line))
         }
-        InText::BothRows => print_line(
-            rt,
-            see_lines(
-                row_line(text, LineKind::Payments, i).unwrap_or(0),
-                row_line(text, LineKind::Adjustments, i).unwrap_or(0),
-            ),
-        ),
+        InText::BothRows => {
+            let payments = row_line(text, LineKind::Payments, i);
+            match payments.zip(row_line(text, LineKind::Adjustments, i)) {
+                Some((first, second)) => print_line(rt, see_lines(first, second)),
+                None => Ok(()),
+            }
+        }
     }
 }
 

@@ -17,8 +17,8 @@ pub loop-k-preserved : goal.loop-k-preserved
 loop-k-preserved c =
     let year = c.text.ensures ∙ c.whole.ensures.text ∙ ap whole_text (held c.signed.result c.signed.type_inv ∙ c.signed.ensures) in
     let entry = rw year at c.with_entry-line.ensures in
-    λ r after. c.loop-k.invariant r (one_entry_more count_text c.args.column c.loop-k.k c.args.last (omega arith) entry after)
+    λ r after. c.loop-k.invariant r (one_entry_more count_text c.args.part.column c.loop-k.k c.args.part.last (omega arith) entry after)
 
 pub returns : goal.returns
 returns c =
-    c.loop-k.invariant c.loop-k.line (no_entry_more count_text c.args.column c.loop-k.k c.args.last (omega arith))
+    c.loop-k.invariant c.loop-k.line (no_entry_more count_text c.args.part.column c.loop-k.k c.args.part.last (omega arith))

@@ -8,4 +8,4 @@ use Rattle.completed_table.proofs.completed_rows.years_heading.Given as goal
 
 abbrev pub invariant-loop-k : goal.invariant-loop-k
 invariant-loop-k l =
-    (r : Line) → After l.line (entries_after count_text l.column l.k (l.last - l.k)) r → LineIs (years_heading l.before l.last l.column) r
+    (r : Line) → After l.line (entries_after count_text l.part.column l.k (l.part.last - l.k)) r → LineIs (years_heading l.part.before l.part.last l.part.column) r

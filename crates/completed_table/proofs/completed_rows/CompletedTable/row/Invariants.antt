@@ -10,5 +10,5 @@ abbrev pub invariant-loop-k : goal.invariant-loop-k
 invariant-loop-k l =
     let t = l.self in
     RowSeenWithin t.n t.lists l.i → (r : Line)
-    → After l.line (entries_after (λ k. shown_entry (cell_shown t.n t.lists t.table l.i k)) l.column l.k (l.last - l.k)) r
-    → LineIs (completed_row t.n t.lists t.table l.i l.before l.last l.column) r
+    → After l.line (entries_after (λ k. shown_entry (cell_shown t.n t.lists t.table l.i k)) l.part.column l.k (l.part.last - l.k)) r
+    → LineIs (completed_row t.n t.lists t.table l.i l.part.before l.part.last l.part.column) r
