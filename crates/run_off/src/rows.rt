@@ -95,6 +95,7 @@ pub fn project_row<D: Destination>(
 
 // The first refusal of question 9 in any accident year, if there is one, for calls that write no figure.
 // The call that fills both lists asks it as it writes, in `project`. It is no method, since the struct of a prepared triangle lies in a crate below.
+#[tactic(auto, using(method::proofs::FirstRefusal::next_accepted, method::proofs::FirstRefusal::next_refused, method::proofs::FirstRefusal::all_accepted, verdicts::proofs::Refusals::handed_on), unfolding(method::specs::Questions::question_9))]
 pub fn question_9(triangle: &PreparedTriangle) -> Verdict
     ensures { verdict_of result ≡ question_9 (method_read triangle.now) }
 {
