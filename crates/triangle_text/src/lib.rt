@@ -2,3 +2,4 @@
 #![tactic(auto)]
 
 pub mod reading;
+mod short_text;

@@ -9,6 +9,7 @@ ghost use Rattle.row_text.specs.Rows.{ReadAs};
 ghost use Rattle.triangle_text.specs.Reading as meaning;
 ghost use Rattle.triangle_text.specs.Reading.{TextReadAs, Within};
 
+use crate::short_text::ShortText;
 use blocks::faults::{Expected, Fault};
 use blocks::lines::{Shape, TriangleShape, read_lines};
 use blocks::weights::default_weights;
@@ -59,9 +60,10 @@ pub fn read_text(
 {
     let text = Text::new(without_mark(bytes));
     first_fault(text)?;
-    let asked = asked_in(text);
+    let short = ShortText { text };
+    let asked = asked_in(short);
     if lists_wanted(asked.years, asked.cut) {
-        read_lists(text, asked, payments, adjustments, weights, openings)
+        read_lists(short, asked, payments, adjustments, weights, openings)
     } else {
         Ok(TextRead {
             asked,
@@ -81,12 +83,12 @@ pub fn without_mark(bytes: &[u8]) -> &[u8]
 }
 
 // What the headings say.
-fn asked_in(text: Text<'_>) -> Asked
-    requires { length text.bytes.now ≤ longest_text }
-    ensures { result ≡ meaning.asked_in text.entry.separator (lines text.entry.bytes.now) }
+fn asked_in(short: ShortText<'_>) -> Asked
+    ensures { result ≡ meaning.asked_in short.entry.text.separator (lines short.entry.text.bytes.now) }
 {
+    let text = short.text;
     Asked {
-        years: years_in(text),
+        years: years_in(short),
         cut: number_after(text, LineKind::Cut, 1, 1),
         payments_cumulated: is_cumulated(text, LineKind::Payments),
         adjustments_cumulated: is_cumulated(text, LineKind::Adjustments),
@@ -96,11 +98,10 @@ fn asked_in(text: Text<'_>) -> Asked
 }
 
 // The number of rows of payments.
-fn years_in(text: Text<'_>) -> i64
-    requires { length text.bytes.now ≤ longest_text }
-    ensures { result ≡ pos (rows_in text.entry.separator (lines_under text.entry.separator LineKind.Payments (lines text.entry.bytes.now))) }
+fn years_in(short: ShortText<'_>) -> i64
+    ensures { result ≡ pos (rows_in short.entry.text.separator (lines_under short.entry.text.separator LineKind.Payments (lines short.entry.text.bytes.now))) }
 {
-    match find_heading(text, LineKind::Payments) {
+    match find_heading(short.text, LineKind::Payments) {
         Some(payments) => payments.count_rows() as i64,
         None => 0,
     }
@@ -125,23 +126,23 @@ fn lists_wanted(years: i64, cut: i64) -> bool
 
 // Reads the four lists, of n years and a cut that questions 1 and 2 accept.
 fn read_lists(
-    text: Text<'_>,
+    short: ShortText<'_>,
     asked: Asked,
     payments: &mut [i64; SEEN_CELLS],
     adjustments: &mut [i64; SEEN_CELLS],
     weights: &mut [i64; WEIGHTED_CELLS],
     openings: &mut [i64; ACCIDENT_YEARS],
 ) -> Result<TextRead, Fault>
-    requires { (length text.bytes.now ≤ longest_text) × (meaning.lists_wanted asked.years asked.cut ≡ true) }
-    ensures { TextReadAs (meaning.lists_in text.entry.separator (lines text.entry.bytes.now) asked (nat_abs asked.years) (nat_abs asked.cut)) result
+    requires { meaning.lists_wanted asked.years asked.cut ≡ true }
+    ensures { TextReadAs (meaning.lists_in short.entry.text.separator (lines short.entry.text.bytes.now) asked (nat_abs asked.years) (nat_abs asked.cut)) result
         payments.new adjustments.new weights.new openings.new }
 {
     let n = asked.years as usize;
     let cut = asked.cut as usize;
-    let payments = read_triangle(text, LineKind::Payments, n, cut, payments)?;
-    let adjustments = read_triangle(text, LineKind::Adjustments, n, cut, adjustments)?;
-    let weights = read_weights(text, n - 1, cut, weights)?;
-    let openings = read_openings(text, openings)?;
+    let payments = read_triangle(short, LineKind::Payments, n, cut, payments)?;
+    let adjustments = read_triangle(short, LineKind::Adjustments, n, cut, adjustments)?;
+    let weights = read_weights(short, n - 1, cut, weights)?;
+    let openings = read_openings(short, openings)?;
     Ok(TextRead {
         asked,
         payments,
@@ -153,19 +154,19 @@ fn read_lists(
 
 // Reads a triangle under a heading. With a cut above 1 it cannot be cumulated.
 fn read_triangle(
-    text: Text<'_>,
+    short: ShortText<'_>,
     heading: LineKind,
     n: usize,
     cut: usize,
     list: &mut [i64],
 ) -> Result<usize, Fault>
-    requires { (length text.bytes.now ≤ longest_text) × (n ≤ most_accident_years) × (amounts_length n ≤ length list.old) }
-    ensures { ReadAs (meaning.triangle_under text.entry.separator (lines text.entry.bytes.now) heading n cut (length list.old)) result list.new }
+    requires { (n ≤ most_accident_years) × (amounts_length n ≤ length list.old) }
+    ensures { ReadAs (meaning.triangle_under short.entry.text.separator (lines short.entry.text.bytes.now) heading n cut (length list.old)) result list.new }
 {
-    let Some(found) = find_heading(text, heading) else {
+    let Some(found) = find_heading(short.text, heading) else {
         return Ok(0);
     };
-    let cumulated = is_cumulated(text, heading);
+    let cumulated = is_cumulated(short.text, heading);
     if cumulated & (1 < cut) {
         return Err(Fault {
             line: found.line,
@@ -174,31 +175,36 @@ fn read_triangle(
         });
     }
     let shape = Shape::Triangle(TriangleShape { n, cut, cumulated });
-    read_lines(found.rows, text.separator, found.line, shape, list)
+    read_lines(found.rows, short.text.separator, found.line, shape, list)
 }
 
 // Reads the weights, or fills them in where the text has none.
-fn read_weights(text: Text<'_>, n: usize, cut: usize, list: &mut [i64]) -> Result<usize, Fault>
-    requires { (length text.bytes.now ≤ longest_text) × (n ≤ most_accident_years) × (amounts_length n ≤ length list.old) }
-    ensures { ReadAs (meaning.weights_under text.entry.separator (lines text.entry.bytes.now) n cut (length list.old)) result list.new }
+fn read_weights(
+    short: ShortText<'_>,
+    n: usize,
+    cut: usize,
+    list: &mut [i64],
+) -> Result<usize, Fault>
+    requires { (n ≤ most_accident_years) × (amounts_length n ≤ length list.old) }
+    ensures { ReadAs (meaning.weights_under short.entry.text.separator (lines short.entry.text.bytes.now) n cut (length list.old)) result list.new }
 {
-    if find_heading(text, LineKind::Weights).is_none() {
+    if find_heading(short.text, LineKind::Weights).is_none() {
         return Ok(default_weights(n, cut, list));
     }
-    read_triangle(text, LineKind::Weights, n, cut, list)
+    read_triangle(short, LineKind::Weights, n, cut, list)
 }
 
 // Reads the openings, as many as there are.
-fn read_openings(text: Text<'_>, list: &mut [i64]) -> Result<usize, Fault>
-    requires { (length text.bytes.now ≤ longest_text) × (length list.old ≤ most_accident_years) }
-    ensures { ReadAs (meaning.openings_under text.entry.separator (lines text.entry.bytes.now) (length list.old)) result list.new }
+fn read_openings(short: ShortText<'_>, list: &mut [i64]) -> Result<usize, Fault>
+    requires { length list.old ≤ most_accident_years }
+    ensures { ReadAs (meaning.openings_under short.entry.text.separator (lines short.entry.text.bytes.now) (length list.old)) result list.new }
 {
-    let Some(found) = find_heading(text, LineKind::Openings) else {
+    let Some(found) = find_heading(short.text, LineKind::Openings) else {
         return Ok(0);
     };
     read_lines(
         found.rows,
-        text.separator,
+        short.text.separator,
         found.line,
         Shape::Openings,
         list,

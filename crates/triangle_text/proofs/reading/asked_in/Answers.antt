@@ -12,8 +12,8 @@ use Rattle.triangle_text.proofs.reading.asked_in.Goals as goal
 pub returns : goal.returns
 unfolding asked_in
 returns c =
-    let separator = c.args.text.separator in
-    let all = lines c.args.text.bytes.now in
+    let separator = c.args.short.text.separator in
+    let all = lines c.args.short.text.bytes.now in
     rw (
       read_back {m = pos (rows_in separator (lines_under separator Payments all))} (record { sfits = c.years_in.type_inv }) c.years_in.ensures,
       read_back {m = number_after separator Cut 1 (pos 1) all} (record { sfits = c.number_after.type_inv }) c.number_after.ensures,

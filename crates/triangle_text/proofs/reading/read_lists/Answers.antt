@@ -44,66 +44,66 @@ module _ (asked : Asked) (accepted : lists_wanted asked.years asked.cut ≡ true
 pub overflow_cast-n : goal.overflow_cast-n
 overflow_cast-n c =
     let asked = c.args.asked in
-    let counted = years asked c.requires.1 in
-    simp (to_z-of_z (years_fit asked c.requires.1)) (count_fits asked.years counted.counted counted.most)
+    let counted = years asked c.requires in
+    simp (to_z-of_z (years_fit asked c.requires)) (count_fits asked.years counted.counted counted.most)
 
 pub overflow_cast-cut : goal.overflow_cast-cut
 overflow_cast-cut c =
     let asked = c.args.asked in
-    simp (to_z-of_z (cut_fits asked c.requires.1)) (count_fits asked.cut (cut asked c.requires.1).counted (cut_few asked c.requires.1))
+    simp (to_z-of_z (cut_fits asked c.requires)) (count_fits asked.cut (cut asked c.requires).counted (cut_few asked c.requires))
 
 pub read_triangle-requires : goal.read_triangle-requires
 read_triangle-requires c =
     let asked = c.args.asked in
-    let most = (years asked c.requires.1).most in
-    simp (to_z-of_z (years_fit asked c.requires.1)) (c.requires.0, most, omega (arith, amounts_fit (nat_abs asked.years) most_accident_years most))
+    let most = (years asked c.requires).most in
+    simp (to_z-of_z (years_fit asked c.requires)) (most, omega (arith, amounts_fit (nat_abs asked.years) most_accident_years most))
 
 pub read_triangle-requires-2 : goal.read_triangle-requires-2
 read_triangle-requires-2 c =
     let asked = c.args.asked in
-    let most = (years asked c.requires.1).most in
-    simp (to_z-of_z (years_fit asked c.requires.1)) (c.requires.0, most, omega (arith, amounts_fit (nat_abs asked.years) most_accident_years most))
+    let most = (years asked c.requires).most in
+    simp (to_z-of_z (years_fit asked c.requires)) (most, omega (arith, amounts_fit (nat_abs asked.years) most_accident_years most))
 
 pub overflow_sub-n : goal.overflow_sub-n
 overflow_sub-n c =
     let asked = c.args.asked in
-    simp (to_z-of_z (years_fit asked c.requires.1)) (omega (arith, (years asked c.requires.1).fewest))
+    simp (to_z-of_z (years_fit asked c.requires)) (omega (arith, (years asked c.requires).fewest))
 
 pub read_weights-requires : goal.read_weights-requires
 read_weights-requires c =
     let asked = c.args.asked in
-    let most = (years asked c.requires.1).most in
+    let most = (years asked c.requires).most in
     let fewer : nat_abs asked.years - 1 ≤ 31 = omega arith in
-    simp (to_z-of_z (years_fit asked c.requires.1)) (c.requires.0, omega arith, omega (arith, amounts_fit (nat_abs asked.years - 1) 31 fewer))
+    simp (to_z-of_z (years_fit asked c.requires)) (omega arith, omega (arith, amounts_fit (nat_abs asked.years - 1) 31 fewer))
 
 -- ---- The four blocks, of lists that have their room, as their arrays say
 
 payments_read : (c : After-read_triangle) → let a = c.args in
-    ReadAs (triangle_under a.text.separator (lines a.text.bytes.now) Payments (nat_abs a.asked.years) (nat_abs a.asked.cut) (amounts_length most_accident_years))
+    ReadAs (triangle_under a.short.text.separator (lines a.short.text.bytes.now) Payments (nat_abs a.asked.years) (nat_abs a.asked.cut) (amounts_length most_accident_years))
     c.read_triangle.result c.read_triangle.new.list
 payments_read c =
     let asked = c.args.asked in
     let long : length c.args.payments.now ≡ amounts_length most_accident_years = omega arith in
-    simp (to_z-of_z (years_fit asked c.requires.1), to_z-of_z (cut_fits asked c.requires.1), long) at c.read_triangle.ensures
+    simp (to_z-of_z (years_fit asked c.requires), to_z-of_z (cut_fits asked c.requires), long) at c.read_triangle.ensures
 
 adjustments_read : (c : After-read_triangle-2) → let a = c.args in
-    ReadAs (triangle_under a.text.separator (lines a.text.bytes.now) Adjustments (nat_abs a.asked.years) (nat_abs a.asked.cut) (amounts_length most_accident_years))
+    ReadAs (triangle_under a.short.text.separator (lines a.short.text.bytes.now) Adjustments (nat_abs a.asked.years) (nat_abs a.asked.cut) (amounts_length most_accident_years))
     c.read_triangle-2.result c.read_triangle-2.new.list
 adjustments_read c =
     let asked = c.args.asked in
     let long : length c.args.adjustments.now ≡ amounts_length most_accident_years = omega arith in
-    simp (to_z-of_z (years_fit asked c.requires.1), to_z-of_z (cut_fits asked c.requires.1), long) at c.read_triangle-2.ensures
+    simp (to_z-of_z (years_fit asked c.requires), to_z-of_z (cut_fits asked c.requires), long) at c.read_triangle-2.ensures
 
 weights_read : (c : After-read_weights) → let a = c.args in
-    ReadAs (weights_under a.text.separator (lines a.text.bytes.now) (nat_abs a.asked.years - 1) (nat_abs a.asked.cut) (weights_length most_accident_years))
+    ReadAs (weights_under a.short.text.separator (lines a.short.text.bytes.now) (nat_abs a.asked.years - 1) (nat_abs a.asked.cut) (weights_length most_accident_years))
     c.read_weights.result c.read_weights.new.list
 weights_read c =
     let asked = c.args.asked in
     let long : length c.args.weights.now ≡ weights_length most_accident_years = omega arith in
-    simp (to_z-of_z (years_fit asked c.requires.1), to_z-of_z (cut_fits asked c.requires.1), long) at c.read_weights.ensures
+    simp (to_z-of_z (years_fit asked c.requires), to_z-of_z (cut_fits asked c.requires), long) at c.read_weights.ensures
 
 openings_read : (c : After-read_openings) → let a = c.args in
-    ReadAs (openings_under a.text.separator (lines a.text.bytes.now) most_accident_years) c.read_openings.result c.read_openings.new.list
+    ReadAs (openings_under a.short.text.separator (lines a.short.text.bytes.now) most_accident_years) c.read_openings.result c.read_openings.new.list
 openings_read c =
     let long : length c.args.openings.now ≡ most_accident_years = omega arith in
     rw long at c.read_openings.ensures

@@ -7,7 +7,7 @@ pub returns-in_default : goal.returns-in_default
 returns-in_default c = no_heading (rw c.in_default.is at c.find_heading.ensures) _ _ _
 
 pub read_lines-requires : goal.read_lines-requires
-read_lines-requires c = lines_input (rw c.in-Some.is at c.find_heading.ensures) c.requires.0 c.requires.1
+read_lines-requires c = lines_input (rw c.in-Some.is at c.find_heading.ensures) c.args.short.short c.requires
 
 pub returns : goal.returns
 returns c = under_heading (rw c.in-Some.is at c.find_heading.ensures) _ _ c.read_lines.ensures

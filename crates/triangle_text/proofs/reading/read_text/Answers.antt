@@ -20,8 +20,8 @@ text_is c = c.new-text.ensures.bytes ∙ c.without_mark.ensures
 parted : (c : After-new-text) → c.new-text.result.separator ≡ separator_of c.new-text.result.bytes.now
 parted c = c.new-text.ensures.separator ∙ ap separator_of (sym c.new-text.ensures.bytes)
 
-pub asked_in-asked-requires : goal.asked_in-asked-requires
-asked_in-asked-requires c = text_short _ _ (text_is (goal.at.asked_in-asked-requires c).After-new-text) c.requires
+pub invariant_of-short : goal.invariant_of-short
+invariant_of-short c = record { short = text_short _ _ (text_is (goal.at.invariant_of-short c).After-new-text) c.requires }
 
 -- ---- The headings
 
@@ -44,10 +44,7 @@ told c =
     simp (to_z-of_z years, to_z-of_z cut) at c.lists_wanted.ensures
 
 pub read_lists-requires : goal.read_lists-requires
-read_lists-requires c = (
-  text_short _ _ (text_is (goal.at.read_lists-requires c).After-new-text) c.requires,
-  sym (told (goal.at.read_lists-requires c).After-lists_wanted) ∙ c.if-lists_wanted.true,
-)
+read_lists-requires c = sym (told (goal.at.read_lists-requires c).After-lists_wanted) ∙ c.if-lists_wanted.true
 
 pub returns-then-lists_wanted-clause-read : goal.returns-then-lists_wanted-clause-read
 returns-then-lists_wanted-clause-read c =

@@ -13,16 +13,16 @@ use Rattle.triangle_text.proofs.Given.{no_rows}
 use Rattle.triangle_text.proofs.reading.years_in.Goals as goal
 use Rattle.triangle_text.proofs.reading.years_in.Goals.{After-count_rows}
 
-found : (c : After-count_rows) → HeadingFound c.args.text.bytes.now c.args.text.separator Payments (Some c.in-Some.payments)
+found : (c : After-count_rows) → HeadingFound c.args.short.text.bytes.now c.args.short.text.separator Payments (Some c.in-Some.payments)
 found c = rw c.in-Some.is at c.find_heading.ensures
 
 pub overflow_cast-result : goal.overflow_cast-result
-overflow_cast-result c = omega (arith, rows_counted (found (goal.at.overflow_cast-result c).After-count_rows), c.count_rows.ensures.1, c.requires)
+overflow_cast-result c = omega (arith, rows_counted (found (goal.at.overflow_cast-result c).After-count_rows), c.count_rows.ensures.1, c.args.short.short)
 
 pub returns-in-Some : goal.returns-in-Some
 returns-in-Some c =
     let at = found (goal.at.returns-in-Some c).After-count_rows in
-    to_z_pos w64 {n = c.count_rows.result} (omega (arith, rows_counted at, c.count_rows.ensures.1, c.requires))
+    to_z_pos w64 {n = c.count_rows.result} (omega (arith, rows_counted at, c.count_rows.ensures.1, c.args.short.short))
     ∙ ap pos (c.count_rows.ensures.0 ∙ ap₂ rows_in at.separator_is (ap others_of at.lines_are))
 
 pub returns-in-None : goal.returns-in-None
