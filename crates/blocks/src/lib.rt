@@ -3,4 +3,5 @@
 
 pub mod faults;
 pub mod lines;
+mod row_line;
 pub mod weights;

@@ -1,11 +1,11 @@
 // The rows under a heading, as the list that a call lends.
 ghost use Rattle.std.specs.Prelude.{◌≡◌, ◌+◌, ◌≤◌, length};
-ghost use Rattle.text.specs.Bytes.{longest_text};
 ghost use Rattle.text.specs.Lines.{lines};
 ghost use Rattle.row_text.specs.Rows.{ReadAs};
 ghost use Rattle.blocks.specs.Blocks.{row_in, block_from, at_line, Room, LinesInput, RowRead};
 
 use crate::faults::{Expected, Fault};
+use crate::row_line::RowLine;
 use line_kinds::kinds::{LineKind, kind_of};
 use line_parts::cells::Text;
 use row_text::rows::{WrongCell, read_row};
@@ -42,54 +42,50 @@ pub fn read_lines(
     let mut rows = 0;
     // Counted on from the heading's own line, whose number is handed in: enumerate would count anew, and the sum of both say less plainly which line it is.
     let mut number = number;
-    for line in below {
+    for bytes in below {
         number += 1;
-        let line = Text {
-            bytes: line,
-            separator,
-        };
-        let kind = kind_of(line);
+        let text = Text { bytes, separator };
+        let kind = kind_of(text);
         if kind.is_heading() {
             return Ok(count);
         }
         if kind == LineKind::Row {
-            count += read_row_of(line, number, shape, rows, &mut list[count..])?;
+            let line = RowLine { text, number };
+            count += read_row_of(line, shape, rows, &mut list[count..])?;
             rows += 1;
         }
     }
     Ok(count)
 }
 
-// Reads a row after so many others, at the line of this number.
+// Reads a row after so many others.
 fn read_row_of(
-    line: Text<'_>,
-    number: usize,
+    line: RowLine<'_>,
     shape: Shape,
     rows: usize,
     list: &mut [i64],
 ) -> Result<usize, Fault>
-    requires { (length line.bytes.now ≤ longest_text) × Room shape rows (length list.old) }
-    ensures { RowRead shape (rows + 1) (row_in line.entry.separator shape number rows (length list.old) line.entry.bytes.now) result list.new }
+    requires { Room shape rows (length list.old) }
+    ensures { RowRead shape (rows + 1) (row_in line.entry.text.separator shape line.entry.number rows (length list.old) line.entry.text.bytes.now) result list.new }
 {
     match shape {
-        Shape::Triangle(triangle) => read_of_triangle(line, number, triangle, rows, list),
-        Shape::Openings => at_line(number, read_row(line, 0, false, true, list)),
+        Shape::Triangle(triangle) => read_of_triangle(line, triangle, rows, list),
+        Shape::Openings => at_line(line.number, read_row(line.text, 0, false, true, list)),
     }
 }
 
 fn read_of_triangle(
-    line: Text<'_>,
-    number: usize,
+    line: RowLine<'_>,
     triangle: TriangleShape,
     rows: usize,
     list: &mut [i64],
 ) -> Result<usize, Fault>
-    requires { (length line.bytes.now ≤ longest_text) × Room (Shape.Triangle triangle) rows (length list.old) }
-    ensures { RowRead (Shape.Triangle triangle) (rows + 1) (row_in line.entry.separator (Shape.Triangle triangle) number rows (length list.old) line.entry.bytes.now) result list.new }
+    requires { Room (Shape.Triangle triangle) rows (length list.old) }
+    ensures { RowRead (Shape.Triangle triangle) (rows + 1) (row_in line.entry.text.separator (Shape.Triangle triangle) line.entry.number rows (length list.old) line.entry.text.bytes.now) result list.new }
 {
     if triangle.n <= rows {
         return Err(Fault {
-            line: number,
+            line: line.number,
             cell: 0,
             expected: Expected::NoFurtherRow,
         });
@@ -97,8 +93,8 @@ fn read_of_triangle(
     let missing = triangle.cut.saturating_sub(rows + 1);
     let row = &mut list[..triangle.n - rows];
     at_line(
-        number,
-        read_row(line, missing, triangle.cumulated, false, row),
+        line.number,
+        read_row(line.text, missing, triangle.cumulated, false, row),
     )
 }
 
