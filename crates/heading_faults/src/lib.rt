@@ -69,6 +69,7 @@ fn check_line(
         LineKind::Row => check(under.has_rows(), HeadingFault::HeadingBeforeRow),
         LineKind::Unknown => Err(HeadingFault::KnownHeading),
         _ => {
+            // 0 where there is none, as the definition numbers it: a line's number may be any here.
             let first = find_heading(text, kind).map_or(0, |found| found.line);
             if first == number {
                 check_words(line, kind)

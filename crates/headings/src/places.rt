@@ -69,6 +69,7 @@ impl<'a> Heading<'a> {
         requires { self.line + length (lines self.rows.rest.now) < 2 ^ 64 }
         ensures { result ≡ line_there (row_line_after self.entry.content.separator self.entry.line row (lines self.entry.rows.rest.now)) }
     {
+        // Counted here: only some of the lines are rows, and a heading ends them.
         let mut left = row;
         for (before, bytes) in self.rows.enumerate() {
             let kind = kind_of(Text {

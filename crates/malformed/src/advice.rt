@@ -89,12 +89,13 @@ fn number_advice(mistake: Mistake) -> &'static [u8]
 fn mistake_of(cell: &[u8]) -> Mistake
     ensures { result ≡ meaning.mistake_of cell.now }
 {
-    match cell.first().copied().unwrap_or(0) {
-        b'#' => after_number_sign(cell),
-        b'"' => Mistake::Quotes,
-        b'(' => Mistake::Brackets,
-        226 => Mistake::TypographicMinus,
-        first if first.is_ascii_alphabetic() => Mistake::Word,
+    match cell {
+        [] => Mistake::Other,
+        [b'#', ..] => after_number_sign(cell),
+        [b'"', ..] => Mistake::Quotes,
+        [b'(', ..] => Mistake::Brackets,
+        [226, ..] => Mistake::TypographicMinus,
+        [first, ..] if first.is_ascii_alphabetic() => Mistake::Word,
         _ if cell.contains(&b'E') | cell.contains(&b'e') => Mistake::PowerOfTen,
         _ => Mistake::Other,
     }
@@ -105,8 +106,8 @@ fn mistake_of(cell: &[u8]) -> Mistake
 fn after_number_sign(cell: &[u8]) -> Mistake
     ensures { result ≡ meaning.after_number_sign cell.now }
 {
-    if (cell.len() == 1) | (cell.get(1).copied().unwrap_or(0) == b' ') {
-        return Mistake::Comment;
+    match cell {
+        [_] | [_, b' ', ..] => Mistake::Comment,
+        _ => Mistake::SpreadsheetError,
     }
-    Mistake::SpreadsheetError
 }

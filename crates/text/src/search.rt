@@ -3,7 +3,7 @@ ghost use Rattle.std.specs.Prelude.{◌≡◌, ◌≤◌, Bool, ℕ, length};
 ghost use Rattle.text.specs.Search.{Computes, before, from};
 ghost use Rattle.text.specs.Search as meaning;
 
-// The place of the first byte that is sought, or the length of the text.
+// The place of the first byte that is sought, or the length of the text: no Option, since what stands before it and from it on are parts of the text in each case.
 pub fn find<F: Fn(u8) -> bool>(text: &[u8], sought: F) -> usize
     requires { F.IsAlwaysCallable sought }
     ensures within { result ≤ length text.now }

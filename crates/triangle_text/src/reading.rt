@@ -153,6 +153,7 @@ fn read_lists(
 }
 
 // Reads a triangle under a heading. With a cut above 1 it cannot be cumulated.
+// n and the length of its list are asked of it and of the weights alone: a type of the two would be asked of openings too, which have no n.
 fn read_triangle(
     short: ShortText<'_>,
     heading: LineKind,
