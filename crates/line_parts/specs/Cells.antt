@@ -1,7 +1,7 @@
 -- The cells of a line, without the spaces around them, and the byte that separates them.
-use Rattle.std.specs.Prelude.{Bool, true, false, ◌&&◌, cond, List, [], ◌∷◌, ℕ, zero, suc, eqb, drop}
+use Rattle.std.specs.Prelude.{Bool, true, false, ◌&&◌, cond, List, [], ◌∷◌, ℕ, zero, suc, eqb}
 use Rattle.text.specs.Bytes.{space, comma}
-use Rattle.text.specs.Search.{is_byte, is_separator, is_no_space, is_content, before, from}
+use Rattle.text.specs.Search.{is_byte, is_separator, is_no_space, is_content, before, from, after}
 use Rattle.text.specs.Lines.{lines}
 
 -- ---- The separator
@@ -42,7 +42,7 @@ abbrev pub first_cell : ℕ → List ℕ → List ℕ
 first_cell separator rest = trimmed (before (is_byte separator) rest)
 
 abbrev pub after_cell : ℕ → List ℕ → List ℕ
-after_cell separator rest = drop 1 (from (is_byte separator) rest)
+after_cell separator rest = after (is_byte separator) rest
 
 -- A text from the field of this number on, counted from 0; empty where there are fewer. The field as it stands between separators.
 unfoldable pub from_field : ℕ → ℕ → List ℕ → List ℕ

@@ -3,7 +3,7 @@ ghost use Rattle.std.specs.Prelude.{◌≡◌};
 ghost use Rattle.line_parts.specs.Cells as meaning;
 
 use text::lines::Lines;
-use text::search::{before, from, is_separator};
+use text::search::{after, before, from, is_separator};
 
 // A text or a part of it, such as a line, and the byte that separates its cells.
 #[derive(Clone, Copy)]
@@ -36,9 +36,8 @@ impl<'a> Text<'a> {
         ensures bytes { result.bytes.now ≡ meaning.after_cell self.entry.separator self.entry.bytes.now }
         ensures separator { result.separator ≡ self.entry.separator }
     {
-        let end = from(self.bytes, |byte| byte == self.separator);
         Text {
-            bytes: if end.is_empty() { end } else { &end[1..] },
+            bytes: after(self.bytes, |byte| byte == self.separator),
             ..self
         }
     }

@@ -5,14 +5,13 @@ use mathlib.Core.List.{List, [], ◌∷◌, map}
 use Prim.Native.Nat.{ℕ, zero, suc, ◌+◌, ◌-◌, ◌≤◌, ◌<◌}
 use native.Mathlib.Omega.{arith}
 use lib.Dec.{eqb}
-use lib.ListN.{length, get_or, take, drop, length-take}
+use lib.ListN.{length, length-drop, get_or, take, drop, length-take}
 use lib.Pointwise.{pointwise}
 use lib.Seq.{take_all, take-take, drop-cons, length-take-le}
 use Rattle.std.specs.Prelude.{Option, None, Some}
 use Rattle.std.specs.Option.{MatchOption, unwrap_or}
 use Rattle.std.proofs.Common.{Bor}
 use Rattle.std.proofs.lemmas.List.{drop-take}
-use Rattle.lists.proofs.Parts.{whole_rest, rest_length}
 use Rattle.text.specs.Bytes.{line_feed, carriage_return}
 use Rattle.text.specs.Search.{is_byte, before, from}
 use Rattle.text.specs.Lines.{first_of, others_of, with_byte, line_feed_follows, whole_lines, before_comment, without_comment, lines, after_line, IsPart, AfterLine}
@@ -54,17 +53,11 @@ after_first text rest shorter is = record {
 }
 
 -- what is left where the line feed is passed, or where there is none
-module _ (text end : List ℕ) (is : end ≡ from (is_byte line_feed) text) where
-  pub nothing_after : length end ≡ 0 → AfterLine text end
-  nothing_after none = after_first text end (λ some. omega arith) (no_first end none ∙ ap (drop 1) is)
-    where
-      no_first : (list : List ℕ) → length list ≡ 0 → list ≡ drop 1 list
-      no_first [] none = refl
-      no_first (byte ∷ list) none = absurd (omega arith)
-
-  pub line_feed_passed : (length end ≡ 0 → ⊥) → AfterLine text (take (length end - 1) (drop 1 end))
-  line_feed_passed some =
-      after_first text _ (λ more. omega (arith, rest_length end 1, ap length is, from_within (is_byte line_feed) text)) (whole_rest end 1 ∙ ap (drop 1) is)
+pub line_passed : (text rest : List ℕ) → rest ≡ drop 1 (from (is_byte line_feed) text) → AfterLine text rest
+line_passed text rest is =
+    after_first text rest
+    (λ some. omega (arith, ap length is, length-drop 1 (from (is_byte line_feed) text), from_within (is_byte line_feed) text))
+    is
 
 -- ---- The first line
 

@@ -7,6 +7,11 @@ use native.Mathlib.Omega.{arith}
 use lib.ListN.{length, get_or, take, drop, length-drop}
 use Rattle.text.specs.Search.{before, from}
 
+-- a text without a first byte is what is left after it
+pub none_first : (text : List ℕ) → length text ≡ 0 → text ≡ drop 1 text
+none_first [] none = refl
+none_first (byte ∷ text) none = absurd (omega arith)
+
 module _ (sought : ℕ → Bool) where
   -- the place that is found parts the text in what stands before it and what is from it on
   pub take_before : (text : List ℕ) → take (length (before sought text)) text ≡ before sought text

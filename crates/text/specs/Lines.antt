@@ -1,7 +1,7 @@
 -- The lines of a text, without their ends and their comments.
 use Rattle.std.specs.Prelude.{◌≡◌, Bool, true, false, ◌&&◌, cond, List, [], ◌∷◌, map, ℕ, zero, suc, ◌-◌, ◌<◌, eqb, length, drop}
 use Rattle.text.specs.Bytes.{line_feed, carriage_return, space, number_sign}
-use Rattle.text.specs.Search.{is_byte, before, from}
+use Rattle.text.specs.Search.{is_byte, before, after}
 
 -- the first of several lines, empty where there is none, and those after it
 abbrev pub first_of : List (List ℕ) → List ℕ
@@ -58,7 +58,7 @@ line_of number lines = first_of (drop (number - 1) lines)
 
 -- A text after its first line feed; empty where it has none.
 abbrev pub after_line : List ℕ → List ℕ
-after_line text = drop 1 (from (is_byte line_feed) text)
+after_line text = after (is_byte line_feed) text
 
 -- A text after so many of its lines.
 unfoldable pub after_lines : ℕ → List ℕ → List ℕ

@@ -1,5 +1,5 @@
 -- A text up to the first byte that is sought, and from that byte on.
-use Rattle.std.specs.Prelude.{◌≡◌, Bool, not, ◌&&◌, ◌||◌, cond, List, [], ◌∷◌, ℕ, ltb, eqb, length}
+use Rattle.std.specs.Prelude.{◌≡◌, Bool, not, ◌&&◌, ◌||◌, cond, List, [], ◌∷◌, ℕ, ltb, eqb, length, drop}
 use Rattle.text.specs.Bytes.{tab, space, double_quote, comma, semicolon}
 
 -- ---- What is sought
@@ -37,6 +37,10 @@ has_byte byte text = ltb (length (before (is_byte byte) text)) (length text)
 unfoldable pub from : (ℕ → Bool) → List ℕ → List ℕ
 from sought [] = []
 from sought (byte ∷ text) = cond (sought byte) (byte ∷ text) (from sought text)
+
+-- what is left after it
+abbrev pub after : (ℕ → Bool) → List ℕ → List ℕ
+after sought text = drop 1 (from sought text)
 
 -- Whether answers are those of a test.
 abbrev pub Computes : (ℕ → Bool → Type 0) → (ℕ → Bool) → Type 0

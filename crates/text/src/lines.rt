@@ -4,7 +4,7 @@ ghost use Rattle.std.specs.Iterator.{YieldsFirstRef, item_count};
 ghost use Rattle.text.specs.Lines.{lines, whole_lines, begins_comment, without_comment, first_of, line_of, AfterLine};
 ghost use Rattle.text.specs.Lines as meaning;
 
-use crate::search::{find, from};
+use crate::search::{after, find};
 
 // The lines of what is left of a text, one by one, without their ends and their comments.
 #[derive(Clone, Copy)]
@@ -79,8 +79,7 @@ fn first_whole_line(text: &[u8]) -> &[u8]
 pub fn after_line(text: &[u8]) -> &[u8]
     ensures { AfterLine text.now result.now }
 {
-    let end = from(text, |byte| byte == b'\n');
-    if end.is_empty() { end } else { &end[1..] }
+    after(text, |byte| byte == b'\n')
 }
 
 // A line of a text, counted from 1, without its end and its comment; empty where there are fewer.

@@ -1,6 +1,6 @@
 // The first byte of a text that is sought.
 ghost use Rattle.std.specs.Prelude.{◌≡◌, ◌≤◌, Bool, ℕ, length};
-ghost use Rattle.text.specs.Search.{Computes, before, from};
+ghost use Rattle.text.specs.Search.{Computes, before, from, after};
 ghost use Rattle.text.specs.Search as meaning;
 
 // The place of the first byte that is sought, or the length of the text: no Option, since what stands before it and from it on are parts of the text in each case.
@@ -28,6 +28,15 @@ pub fn from<F: Fn(u8) -> bool>(text: &[u8], sought: F) -> &[u8]
     ensures { (test : ℕ → Bool) → Computes (F.post sought) test → result.now ≡ from test text.now }
 {
     &text[find(text, sought)..]
+}
+
+// What is left of a text after the first byte that is sought; empty where there is none.
+pub fn after<F: Fn(u8) -> bool>(text: &[u8], sought: F) -> &[u8]
+    requires { F.IsAlwaysCallable sought }
+    ensures { (test : ℕ → Bool) → Computes (F.post sought) test → result.now ≡ after test text.now }
+{
+    let end = from(text, sought);
+    if end.is_empty() { end } else { &end[1..] }
 }
 
 // A comma, a semicolon or a tab.
