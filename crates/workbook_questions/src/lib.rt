@@ -56,6 +56,7 @@ struct SeenCells<'a> {
 
 impl<'a> SeenCells<'a> {
     // Question 11.
+    #[tactic(auto, using(cells::proofs::CellWalk::cell_here), unfolding(workbook::specs::Questions::kinds_known))]
     fn kinds_known(self) -> Verdict
         ensures { verdict_of result ≡ kinds_known self.entry.n (cells_of self.entry.cells) }
     {
@@ -64,6 +65,7 @@ impl<'a> SeenCells<'a> {
     }
 
     // Question 12.
+    #[tactic(auto, using(cells::proofs::CellWalk::cell_here), unfolding(workbook::specs::Questions::numbers_whole))]
     fn numbers_whole(self) -> Verdict
         ensures { verdict_of result ≡ numbers_whole self.entry.n (cells_of self.entry.cells) }
     {
@@ -74,6 +76,7 @@ impl<'a> SeenCells<'a> {
     }
 
     // Question 13.
+    #[tactic(auto, using(cells::proofs::CellWalk::cell_here, workbook::proofs::CellTests::blank_by_kind), unfolding(workbook::specs::Questions::blanks_missing))]
     fn blanks_missing(self, cut: usize) -> Verdict
         ensures { verdict_of result ≡ blanks_missing self.entry.n cut (cells_of self.entry.cells) }
     {
