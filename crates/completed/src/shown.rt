@@ -40,6 +40,7 @@ impl<'a> CompletedLists<'a> {
     }
 
     // The outstanding at the end of the year. That of an opening's cell, whose years add up to the cut, is known.
+    // No twin of the amounts: its first known cell is another, and it is promised only where its row is within the limits.
     #[tactic(auto, using(integers::proofs::MachineArithmetic::held))]
     pub fn outstanding_shown(self, cell: Cell) -> Shown
         ensures { OutstandingShown cell.n self.entry.cut
