@@ -1,4 +1,5 @@
 // What a host links, for C: the calls of crate juniperprow under their own names. A list is a pointer and then a count.
+// Each stands by itself, with its parameters one by one: the C interface needs it.
 #![tactic(auto)]
 
 ghost use Rattle.std.specs.Prelude.{length};

@@ -1,14 +1,18 @@
 -- Question 3 of a workbook, in the two parts in which the code asks it, and what questions 1 to 4 leave.
 use mathlib.Core.Path.{◌≡◌, refl, sym, ap, ◌∙◌}
 use mathlib.Core.Bool.{Bool, true, false, ◌&&◌}
-use Prim.Native.Nat.{ℕ}
+use Prim.Native.Nat.{ℕ, ◌+◌, ◌≤◌}
+use native.Mathlib.Omega.{arith}
 use lib.Dec.{eqb}
-use lib.ListN.{length}
+use lib.IntN.{pos}
+use lib.ListN.{length, take, replicate}
+use lib.Seq.{length-take-le}
 use Rattle.method.specs.Triangle.{amounts_length, weights_length, openings_length, future_length}
 use Rattle.method.specs.Verdicts.{Verdict, accepted, nowhere, ask, ◌then◌}
 use Rattle.method.specs.Questions.{question_1, question_2, question_3, question_4}
 use Rattle.method.proofs.FirstRefusal.{ask_both, then_goes_on, then_accepted, then_assoc}
 use Rattle.method.proofs.QuestionFacts.{YearsInRange, years_accepted, CutInRange, cut_accepted, lengths_accepted}
+use Rattle.verdicts.proofs.Counts.{few_cells}
 use Rattle.workbook.specs.Workbook.{Workbook, converted, pairs_length}
 use Rattle.workbook.specs.Questions.{n, Y, workbook_lengths_right}
 use Rattle.workbook.specs.Demand1.{WorkbookLengthsRight}
@@ -85,3 +89,11 @@ module _ (b : Workbook) where
 
       pub weights_right : question_4 (converted b) ≡ accepted
       weights_right = (then_accepted _ _ (then_accepted _ _ (then_accepted _ _ e).1).1).1
+
+      -- there is room for every amount
+      pub amounts_have_room : length b.payments.numbers ≤ 528
+      amounts_have_room = omega (arith, lengths_right.payments, few_cells (n b) (n b + 1) years_right.most (omega (arith, years_right.most)))
+
+-- as much of an array as a list has numbers
+pub part_long : {count : ℕ} → count ≤ 528 → length (take count (replicate 528 (pos 0))) ≡ count
+part_long {count} h = length-take-le count (replicate 528 (pos 0)) (omega (arith, h))

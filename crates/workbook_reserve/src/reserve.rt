@@ -36,6 +36,7 @@ pub fn workbook_reserve(workbook: Workbook<'_>, future: &mut [i64], pairs: &mut 
 }
 
 // The same, but that nothing is said of what a refused call leaves in the lists.
+#[tactic(auto, using(crate::proofs::AllLengths::amounts_have_room, crate::proofs::AllLengths::part_long))]
 fn fill(workbook: Workbook<'_>, future: &mut [i64], pairs: &mut [f64]) -> Verdict
     ensures { WorkbookFilled (workbook_of workbook.entry) (length future.old) (length pairs.old)
         (verdict_of result) future.new pairs.new }
