@@ -21,6 +21,7 @@ pub struct OtherLengths {
 }
 
 // The first refusal of questions 1 to 4, if there is one.
+#[tactic(auto, using(questions::proofs::Counted::years_right, verdicts::proofs::Counts::count_fits))]
 pub(crate) fn questions_1_to_4(workbook: Workbook<'_>, future: usize, pairs: usize) -> Verdict
     ensures { verdict_of result ≡ questions_1_to_4 (workbook_of workbook.entry) future pairs }
 {

@@ -55,6 +55,7 @@ fn fill(workbook: Workbook<'_>, future: &mut [i64], pairs: &mut [f64]) -> Verdic
 }
 
 // The same where questions 1 to 4 have accepted, by way of lists of amounts.
+#[tactic(auto, using(crate::proofs::AllLengths::years_right, crate::proofs::AllLengths::cut_right, crate::proofs::AllLengths::lengths_right, verdicts::proofs::Counts::count_fits))]
 fn convert_and_fill(
     workbook: Workbook<'_>,
     paid: &mut [i64],

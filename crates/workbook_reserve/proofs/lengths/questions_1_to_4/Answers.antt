@@ -6,7 +6,6 @@ use Rattle.method.specs.Questions.{question_3, question_4}
 use Rattle.method.proofs.FirstRefusal.{went_on}
 use Rattle.method.proofs.QuestionFacts.{YearsInRange}
 use Rattle.verdicts.specs.Verdicts.{verdict_of}
-use Rattle.verdicts.proofs.Counts.{count_fits}
 use Rattle.verdicts.proofs.Refusals.{stopped_at}
 use Rattle.list_lengths.specs.Lengths.{questions_1_to_3}
 use Rattle.questions.proofs.Counted.{years_right}
@@ -35,17 +34,6 @@ pub returns-in_err-questions_1_to_3 : goal.returns-in_err-questions_1_to_3
 returns-in_err-questions_1_to_3 c =
     stopped_at _ _ (three (goal.at.returns-in_err-questions_1_to_3 c).After-questions_1_to_3) c.in_err-questions_1_to_3.was c.from_residual.ensures.1
     ∙ questions_in_parts (workbook_of c.args.workbook) c.args.future c.args.pairs
-
-pub overflow_cast-n : goal.overflow_cast-n
-overflow_cast-n c =
-    let here = goal.at.overflow_cast-n c in
-    let y = years here.In_ok-questions_1_to_3 in
-    simp (held here.After-questions_1_to_3).0 (count_fits c.args.workbook.years y.counted y.most)
-
-pub other_lengths_right-requires : goal.other_lengths_right-requires
-other_lengths_right-requires c =
-    let here = goal.at.other_lengths_right-requires c in
-    simp (held here.After-questions_1_to_3).0 (years here.In_ok-questions_1_to_3).most
 
 others : (c : After-asked) → let b = workbook_of c.args.workbook in verdict_of c.asked.result ≡ question_3 (other_lengths_right (n b) (lengths_besides b c.args.future c.args.pairs))
 unfolding question_3
