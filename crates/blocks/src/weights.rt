@@ -20,6 +20,7 @@ pub fn default_weights(n: usize, cut: usize, list: &mut [i64]) -> usize
     amounts_length(n)
 }
 
+#[tactic(auto, using(crate::proofs::WeightsFilled::row_by_parts))]
 fn fill_row(missing: usize, row: &mut [i64])
     ensures { row.new ≡ default_row missing (length row.old) }
 {

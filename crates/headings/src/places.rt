@@ -108,6 +108,7 @@ pub fn number_after(text: Text<'_>, heading: LineKind, number: usize, other: i64
 }
 
 // Whether the rows under a heading are cumulated.
+#[tactic(auto, using(crate::proofs::HeadingSearch::heading_word, crate::proofs::HeadingSearch::no_heading_word), unfolding(crate::specs::Places::is_cumulated, line_kinds::specs::Kinds::is_either, line_parts::specs::Words::is_word))]
 pub fn is_cumulated(text: Text<'_>, heading: LineKind) -> bool
     ensures { result ≡ meaning.is_cumulated text.entry.separator heading (lines text.entry.bytes.now) }
 {
@@ -124,6 +125,7 @@ pub fn says_cumulated(word: &[u8]) -> bool
 }
 
 // The number of the line of a row under a heading, both counted from 1.
+#[tactic(auto, using(crate::proofs::HeadingSearch::rows_counted, crate::proofs::RowLines::no_row, crate::proofs::RowLines::row_of_heading))]
 pub fn row_line(text: Text<'_>, heading: LineKind, row: usize) -> Option<usize>
     ensures { result ≡ line_there (meaning.row_line text.entry.separator heading row (lines text.entry.bytes.now)) }
 {

@@ -68,6 +68,7 @@ fn blank_or_separators(line: &[u8]) -> LineKind
 }
 
 // Whether a text begins with a letter, or with a double quote and a letter.
+#[tactic(auto, using(crate::proofs::KindsOfLines::without_quote))]
 fn begins_heading(text: &[u8]) -> bool
     ensures { result ≡ meaning.begins_heading text.now }
 {

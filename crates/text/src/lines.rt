@@ -30,6 +30,7 @@ impl<'a> Iterator for Lines<'a> {
 }
 
 // The first line of a text, without its end and its comment; empty where the text is.
+#[tactic(auto, using(crate::proofs::FirstLines::first_without_comment))]
 pub fn first_line(text: &[u8]) -> &[u8]
     ensures { result.now ≡ first_of (lines text.now) }
 {

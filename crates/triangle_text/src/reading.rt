@@ -76,6 +76,7 @@ pub fn read_text(
 }
 
 // A text without the byte order mark at its start.
+#[tactic(auto, using(crate::proofs::Mark::mark_left_out))]
 pub fn without_mark(bytes: &[u8]) -> &[u8]
     ensures { result.now ≡ meaning.without_mark bytes.now }
 {
