@@ -11,7 +11,7 @@ use Rattle.workbook_reserve.specs.Workbooks.{FilledInPairs}
 use Rattle.workbook_reserve.proofs.AllLengths.{years_right, lengths_right}
 use Rattle.workbook_reserve.proofs.Filled.{refused_at_cells, filled_as_stored}
 use Rattle.workbook_reserve.proofs.reserve.convert_and_fill.Goals as goal
-use Rattle.workbook_reserve.proofs.reserve.convert_and_fill.Goals.{After-convert-adjusted_whole, After-questions_11_to_13, Start}
+use Rattle.workbook_reserve.proofs.reserve.convert_and_fill.Goals.{After-convert-adjusted_whole, After-questions_11_to_13}
 
 -- n and Y as the code reads them
 held : (c : After-convert-adjusted_whole) → Held c.args.workbook.years × Held c.args.workbook.cut
