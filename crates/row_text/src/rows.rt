@@ -61,6 +61,7 @@ fn is_blank(rest: Text<'_>) -> bool
 }
 
 // The list is full after so many cells. Nothing but blank cells may follow, as after the last opening.
+// The length of what is left is asked here alone: a type for one function would be no plainer.
 fn row_end(rest: Text<'_>, openings: bool, cells: usize) -> Result<usize, WrongCell>
     requires { (cells ≤ 32) × (length rest.bytes.now ≤ longest_text) }
     ensures { result ≡ counted_from cells (ended rest.entry.separator openings cells rest.entry.bytes.now (from_content rest.entry.separator rest.entry.bytes.now)) }
