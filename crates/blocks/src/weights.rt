@@ -8,6 +8,7 @@ ghost use Rattle.blocks.specs.Blocks.{default_row};
 use verdicts::lengths::{amounts_length, cells_before};
 
 // Fills a list from its left with the rows of n, n − 1, … weights, and answers how many they are.
+// n and the list's room are asked of both by themselves: a type that knew them would be made for this call.
 pub fn default_weights(n: usize, cut: usize, list: &mut [i64]) -> usize
     requires { (n ≤ most_accident_years) × (amounts_length n ≤ length list.old) }
     ensures { (result ≡ length (meaning.default_weights n cut)) × (take result list.new ≡ meaning.default_weights n cut) }
