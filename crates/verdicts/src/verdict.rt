@@ -15,32 +15,19 @@ pub struct Place {
 // The questions of document 01, and from 11 on of document 02, by their numbers.
 #[derive(Clone, Copy, PartialEq, Eq)]
 pub enum Question {
-    // 1
-    Years,
-    // 2
-    Cut,
-    // 3
-    Lengths,
-    // 4
-    WeightInRange,
-    // 5
-    AmountRight,
-    // 6
-    OutstandingInRange,
-    // 7
-    WeightAllowed,
-    // 8
-    Exposure,
-    // 9
-    ProjectedFigure,
-    // 10
-    YearsAsked,
-    // 11
-    KindKnown,
-    // 12
-    NumberWhole,
-    // 13
-    BlankWhereMissing,
+    Years = 1,
+    Cut = 2,
+    Lengths = 3,
+    WeightInRange = 4,
+    AmountRight = 5,
+    OutstandingInRange = 6,
+    WeightAllowed = 7,
+    Exposure = 8,
+    ProjectedFigure = 9,
+    YearsAsked = 10,
+    KindKnown = 11,
+    NumberWhole = 12,
+    BlankWhereMissing = 13,
 }
 
 impl Question {
@@ -48,21 +35,7 @@ impl Question {
     pub fn number(self) -> u8
         ensures { result ≡ number_of self }
     {
-        match self {
-            Question::Years => 1,
-            Question::Cut => 2,
-            Question::Lengths => 3,
-            Question::WeightInRange => 4,
-            Question::AmountRight => 5,
-            Question::OutstandingInRange => 6,
-            Question::WeightAllowed => 7,
-            Question::Exposure => 8,
-            Question::ProjectedFigure => 9,
-            Question::YearsAsked => 10,
-            Question::KindKnown => 11,
-            Question::NumberWhole => 12,
-            Question::BlankWhereMissing => 13,
-        }
+        self as u8
     }
 }
 
