@@ -1,2 +1,0 @@
--- The law of a product.
-pub mod Columns
