@@ -10,6 +10,7 @@ pub fn widest<F: Fn(usize) -> usize>(first: usize, places: Range<usize>, width: 
     ensures { WidestOf (F.post width) first places.start places.end result }
 {
     // tried as a fold: that the width may be asked at each of its turns did not close, since that is known of these places only
+    // tried over `places` itself: the loop then needs one answer more, on its iterator
     let mut column = first;
     for place in places.start..places.end {
         column = column.max(width(place));

@@ -1,4 +1,3 @@
--- Counts of years, the room of every sentence, and the worked examples.
-pub mod CountsOfYears
+-- The room of every sentence, and the worked examples.
 pub mod SentenceRoom
 pub mod Examples

@@ -6,11 +6,14 @@ ghost use Rattle.refusals.specs.Counts.{count_of, count_or_0};
 use verdicts::limits::ACCIDENT_YEARS;
 
 // A number of years, or 0 where no triangle has as many. This and the next are each a chain of the library, under a contract in the words of the definitions.
+#[tactic(auto, unfolding(crate::specs::Counts::count_of))]
 pub fn count_of(years: i64) -> usize
     ensures { (result ≡ count_of years) × (result ≤ most_accident_years) }
 {
-    let count = count_or_0(years);
-    if count <= ACCIDENT_YEARS { count } else { 0 }
+    usize::try_from(years)
+        .ok()
+        .filter(|count| *count <= ACCIDENT_YEARS)
+        .unwrap_or(0)
 }
 
 // A number as a count, or 0 where it is below 0.

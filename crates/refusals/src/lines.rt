@@ -118,6 +118,7 @@ pub enum InText {
     OpeningsHeading,
 }
 
+// The rows or the heading that hold what is wrong.
 #[tactic(auto, unfolding(crate::specs::Sentences::in_text))]
 pub fn in_text(question: Question, found: Found) -> InText
     ensures { result ≡ meaning.in_text (number_of question) found }
@@ -140,7 +141,7 @@ pub fn in_text(question: Question, found: Found) -> InText
     }
 }
 
-// The third line, where the text has it in one line or in two.
+// The third line, where the text has it in one line.
 #[tactic(auto, using(integers::proofs::MachineArithmetic::held), unfolding(crate::specs::Sentences::see_line))]
 pub fn see_line(line: usize) -> Line
     ensures { LineIs (meaning.see_line line) result }
@@ -148,6 +149,7 @@ pub fn see_line(line: usize) -> Line
     filled(b"See line @.", &[signed(line)])
 }
 
+// The third line, where the text has it in two lines: that of the payment and that of the adjustment.
 #[tactic(auto, using(integers::proofs::MachineArithmetic::held), unfolding(crate::specs::Sentences::see_lines))]
 pub fn see_lines(first: usize, second: usize) -> Line
     ensures { LineIs (meaning.see_lines first second) result }

@@ -13,10 +13,11 @@ use verdicts::lengths::{amounts_length, weights_length};
 use verdicts::limits::{GREATEST_AMOUNT, from_to};
 use verdicts::verdict::Place;
 
+// Of a cut that is not one of this number of years.
 pub(crate) fn cut_sentence(cut: i64, years: i64) -> Line
     ensures { LineIs (meaning.cut_sentence cut years) result }
 {
-    // 0 where 64 bits do not hold it, which no triangle's do
+    // 0 stands for a number below 64 bits, which no text leads to
     let most = difference(years, 1).unwrap_or(0);
     filled(
         b"The cut is @ and not from 1 to @, which is one less than the number of accident years.",
@@ -24,6 +25,7 @@ pub(crate) fn cut_sentence(cut: i64, years: i64) -> Line
     )
 }
 
+// Each list with its length, and the length that it should have.
 pub(crate) fn lengths_sentence(triangle: Triangle<'_>) -> Line
     ensures { LineIs (meaning.lengths_sentence (triangle_of triangle.entry)) result }
 {
@@ -56,6 +58,7 @@ pub(crate) fn amount_sentence(i: i64, k: i64, x: i64, missing: &[u8], beyond: &[
     filled(beyond, &[i, k, x])
 }
 
+// Of an observed outstanding x, below 0 or beyond the limit.
 pub(crate) fn outstanding_sentence(i: i64, k: i64, x: i64) -> Line
     ensures { LineIs (meaning.outstanding_sentence i k x) result }
 {
@@ -72,6 +75,7 @@ pub(crate) fn outstanding_sentence(i: i64, k: i64, x: i64) -> Line
     )
 }
 
+// Of the year that no ratio projects from.
 pub(crate) fn exposure_sentence(k: i64) -> Line
     ensures { LineIs (meaning.exposure_sentence k) result }
 {
