@@ -14,7 +14,7 @@ use lent::Triangle;
 use projection::Movement;
 use rows::{AmountList, row_verdict};
 use single_cell::single_cell;
-use verdicts::verdict::{Refusal, Verdict};
+use verdicts::verdict::{Place, Refusal, Verdict};
 
 // The number of the question that refused the call, and the place; all 0 where it is accepted. In C: juniperprow_verdict.
 #[repr(C)]
@@ -124,7 +124,11 @@ pub fn juniperprow_single_cell<'a>(
         weights,
         openings,
     };
-    CellAnswer::from(single_cell(triangle, accident_year, development_year))
+    let cell = Place {
+        accident_year,
+        development_year,
+    };
+    CellAnswer::from(single_cell(triangle, cell))
 }
 
 // The verdict on the row of an accident year, whichever list it is taken from.

@@ -36,7 +36,7 @@ pub(crate) fn call(rt: &impl Print, read: ReadText<'_, '_>) -> io::Result<()> {
 }
 
 fn call_cell(rt: &impl Print, read: ReadText<'_, '_>, cell: Place) -> io::Result<()> {
-    match single_cell(read.triangle, cell.accident_year, cell.development_year) {
+    match single_cell(read.triangle, cell) {
         Ok(figures) => print_cell(rt, read.asked, cell, figures),
         Err(refusal) => print_refusal(rt, read, refusal),
     }

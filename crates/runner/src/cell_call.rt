@@ -3,11 +3,16 @@ use crate::printing::{print_amount, print_verdict, print_whether};
 use juniperprow::juniperprow_single_cell;
 use lent::Triangle;
 use single_cell::single_cell;
+use verdicts::verdict::Place;
 
 // Prints the verdict, and the cell's figures or whether a host is refused too and handed zeros.
 pub(crate) fn try_cell(rt: &impl Print, triangle: Triangle<'_>, last: [i64; 3]) {
     let [accident_year, development_year, _] = last;
-    match single_cell(triangle, accident_year, development_year) {
+    let cell = Place {
+        accident_year,
+        development_year,
+    };
+    match single_cell(triangle, cell) {
         Ok(figures) => {
             print_verdict(rt, Ok(()));
             print_amount(rt, b", payment ", figures.payment.0);
@@ -16,25 +21,25 @@ pub(crate) fn try_cell(rt: &impl Print, triangle: Triangle<'_>, last: [i64; 3]) 
         }
         Err(refusal) => {
             print_verdict(rt, Err(refusal));
-            let zeros = refused_with_zeros(triangle, accident_year, development_year);
+            let zeros = refused_with_zeros(triangle, cell);
             print_whether(rt, zeros, b"all zeros");
         }
     }
 }
 
-fn refused_with_zeros(triangle: Triangle<'_>, accident_year: i64, development_year: i64) -> bool {
-    let cell = juniperprow_single_cell(
+fn refused_with_zeros(triangle: Triangle<'_>, cell: Place) -> bool {
+    let answer = juniperprow_single_cell(
         triangle.years,
         triangle.cut,
         triangle.payments,
         triangle.adjustments,
         triangle.weights,
         triangle.openings,
-        accident_year,
-        development_year,
+        cell.accident_year,
+        cell.development_year,
     );
-    (cell.verdict.number != 0)
-        & (cell.payment == 0)
-        & (cell.adjustment == 0)
-        & (cell.outstanding == 0)
+    (answer.verdict.number != 0)
+        & (answer.payment == 0)
+        & (answer.adjustment == 0)
+        & (answer.outstanding == 0)
 }

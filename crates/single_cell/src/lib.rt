@@ -25,22 +25,18 @@ use run_off::rows::question_9;
 use share::millionths::Millionths;
 use triangle::reading::{NOTHING_READ, read_into};
 use verdicts::limits::from_to;
-use verdicts::verdict::{Question, Refusal, asked};
+use verdicts::verdict::{Place, Question, Refusal, asked};
 
 // A cell of the future list, without the list: questions 1 to 9 are put to the whole triangle, and question 10 to the cell.
 // What is lent may be anything: n, the cut, the years of the cell and every number any i64, and the lists of any length.
-pub fn single_cell(
-    triangle: Triangle<'_>,
-    accident_year: i64,
-    development_year: i64,
-) -> Result<Movement, Refusal>
-    ensures whole { cell_of result ≡ single_cell (triangle_of triangle.entry) accident_year development_year }
-    ensures demand_1 { Demand1OfCell (triangle_of triangle.entry) accident_year development_year (cell_of result) }
-    ensures of_future { verdict_of result ≡ accepted → CellOfFuture (triangle_of triangle.entry) accident_year development_year (cell_of result) }
+pub fn single_cell(triangle: Triangle<'_>, cell: Place) -> Result<Movement, Refusal>
+    ensures whole { cell_of result ≡ single_cell (triangle_of triangle.entry) cell.accident_year cell.development_year }
+    ensures demand_1 { Demand1OfCell (triangle_of triangle.entry) cell.accident_year cell.development_year (cell_of result) }
+    ensures of_future { verdict_of result ≡ accepted → CellOfFuture (triangle_of triangle.entry) cell.accident_year cell.development_year (cell_of result) }
 {
     let mut development = NOTHING_READ;
     read_into(triangle, None, &mut development)?;
-    projected_cell(triangle, &development, accident_year, development_year)
+    projected_cell(triangle, &development, cell)
 }
 
 // The cell of a triangle that questions 1 to 8 have accepted. It stays a call of its own, so that a prepared triangle takes no stack while one is read.
@@ -48,30 +44,27 @@ pub fn single_cell(
 fn projected_cell(
     triangle: Triangle<'_>,
     development: &Development,
-    accident_year: i64,
-    development_year: i64,
+    cell: Place,
 ) -> Result<Movement, Refusal>
     requires { ReadingOf (triangle_of triangle) None (Ok development.now) }
-    ensures { cell_of result ≡ single_cell (triangle_of triangle.entry) accident_year development_year }
+    ensures { cell_of result ≡ single_cell (triangle_of triangle.entry) cell.accident_year cell.development_year }
 {
     let mut prepared = PreparedTriangle::EMPTY;
     prepared.prepare(triangle.years as usize, development);
     question_9(&prepared)?;
-    asked(
-        cell_unseen(triangle.years, accident_year, development_year),
-        Question::YearsAsked,
-    )?;
-    let i = accident_year as usize;
-    let k = development_year as usize;
+    asked(cell_unseen(triangle.years, cell), Question::YearsAsked)?;
+    let i = cell.accident_year as usize;
+    let k = cell.development_year as usize;
     Ok(movement(&prepared, i, k))
 }
 
 // Whether the cell is unseen. The sum of the two years is formed only where it is small.
-fn cell_unseen(years: i64, accident_year: i64, development_year: i64) -> bool
+fn cell_unseen(years: i64, cell: Place) -> bool
     requires { question_1 years ≡ accepted }
-    ensures { result ≡ cell_unseen years accident_year development_year }
+    ensures { result ≡ cell_unseen years cell.accident_year cell.development_year }
 {
-    from_to(2, years, accident_year) && from_to(years + 2 - accident_year, years, development_year)
+    from_to(2, years, cell.accident_year)
+        && from_to(years + 2 - cell.accident_year, years, cell.development_year)
 }
 
 // The outstanding of a year is taken from that year's movement, and the movement from the outstanding before it.

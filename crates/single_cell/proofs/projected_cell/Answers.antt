@@ -49,13 +49,11 @@ cell_unseen-requires c =
     simp held passed
 
 -- question 10, as it was asked
-tested : (c : After-asked) → verdict_of c.asked.result ≡ question_10 (cell_unseen c.args.triangle.years c.args.accident_year c.args.development_year)
+tested : (c : After-asked) → verdict_of c.asked.result ≡ question_10 (cell_unseen c.args.triangle.years c.args.cell.accident_year c.args.cell.development_year)
 unfolding question_10
 tested c =
     let years : Held c.args.triangle.years = search rules in
-    let i : Held c.args.accident_year = search rules in
-    let k : Held c.args.development_year = search rules in
-    c.asked.ensures ∙ ap question_10 (simp (years, i, k) at c.cell_unseen.ensures)
+    c.asked.ensures ∙ ap question_10 (simp years at c.cell_unseen.ensures)
 
 pub returns-in_err-asked : goal.returns-in_err-asked
 returns-in_err-asked c =
@@ -66,13 +64,13 @@ returns-in_err-asked c =
 
 -- where question 10 has accepted the cell
 module _ (c : In_ok-asked) where
-  told : accepted ≡ question_10 (cell_unseen c.args.triangle.years c.args.accident_year c.args.development_year)
+  told : accepted ≡ question_10 (cell_unseen c.args.triangle.years c.args.cell.accident_year c.args.cell.development_year)
   told = sym (ap verdict_of c.in_ok-asked.was) ∙ tested (goal.at.In_ok-asked c).After-asked
 
   as_prepared : Prepared (n (triangle_of c.args.triangle)) c.args.development.now.ratios c.args.development.now.outstandings c.prepare.new.self
   as_prepared = prepared (goal.at.In_ok-asked c).After-prepare
 
-  counted : IsCount c.args.accident_year × IsCount c.args.development_year
+  counted : IsCount c.args.cell.accident_year × IsCount c.args.cell.development_year
   counted =
       let u = unseen _ _ _ c.requires as_prepared c.in_ok-question_9.ensures told in
       let y = (years_observed c.requires).years in
@@ -80,25 +78,25 @@ module _ (c : In_ok-asked) where
 
 pub overflow_cast-i : goal.overflow_cast-i
 overflow_cast-i c =
-    let i : Held c.args.accident_year = search rules in
+    let i : Held c.args.cell.accident_year = search rules in
     simp i (counted (goal.at.overflow_cast-i c).In_ok-asked).0
 
 pub overflow_cast-k : goal.overflow_cast-k
 overflow_cast-k c =
-    let k : Held c.args.development_year = search rules in
+    let k : Held c.args.cell.development_year = search rules in
     simp k (counted (goal.at.overflow_cast-k c).In_ok-asked).1
 
 pub movement-requires : goal.movement-requires
 movement-requires c =
-    let i : Held c.args.accident_year = search rules in
-    let k : Held c.args.development_year = search rules in
+    let i : Held c.args.cell.accident_year = search rules in
+    let k : Held c.args.cell.development_year = search rules in
     let here = (goal.at.movement-requires c).In_ok-asked in
     let q = c.in_ok-question_9.ensures in
     simp (i, k) (cell_year _ _ _ c.requires (as_prepared here) q (told here), cell_later _ _ _ c.requires (as_prepared here) q (told here))
 
 pub returns : goal.returns
 returns c =
-    let i : Held c.args.accident_year = search rules in
-    let k : Held c.args.development_year = search rules in
+    let i : Held c.args.cell.accident_year = search rules in
+    let k : Held c.args.cell.development_year = search rules in
     let here = (goal.at.returns c).In_ok-asked in
     accepted_whole _ _ _ c.requires (as_prepared here) c.in_ok-question_9.ensures (told here) (simp (i, k) at c.movement.ensures)

@@ -1,8 +1,6 @@
 -- Questions 1 to 8, and then the cell of what was read.
-use borrow.Author.Rules.{rules}
 use Rattle.std.proofs.Common.{Err}
 use Rattle.std.proofs.lemmas.Result.{err_from_is_err_and}
-use Rattle.integers.proofs.MachineArithmetic.{Held}
 use Rattle.single_cell.proofs.WholeCells.{refused_reading, with_demands}
 use Rattle.single_cell.proofs.single_cell.Goals as goal
 
@@ -15,7 +13,4 @@ pub projected_cell-requires : goal.projected_cell-requires
 projected_cell-requires c = c.in_ok-read_into.ensures
 
 pub returns : goal.returns
-returns c =
-    let i : Held c.args.accident_year = search rules in
-    let k : Held c.args.development_year = search rules in
-    with_demands _ _ _ c.projected_cell.result (simp (i, k) at c.projected_cell.ensures)
+returns c = with_demands _ _ _ c.projected_cell.result c.projected_cell.ensures
