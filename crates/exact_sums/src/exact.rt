@@ -1,4 +1,5 @@
 // Sums and differences that are exact, or known to have more than 64 bits.
+// Each is one call of the library, under a contract in the words of the definitions.
 ghost use Rattle.std.specs.Prelude.{◌≡◌, ◌+ℤ◌, ◌-ℤ◌};
 ghost use Rattle.exact_sums.specs.Exact.{exact_of};
 

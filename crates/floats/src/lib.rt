@@ -29,6 +29,7 @@ const TWO_TO_51: f64 = 2251799813685248.0;
 const TWO_TO_53: f64 = 9007199254740992.0;
 
 // Whether x is from -size to size.
+// No plainer as `(-size..=size).contains(&x)`: that answers by `partial_cmp` at each end, where the definition has the comparison of floats itself.
 fn is_within(x: f64, size: f64) -> bool
     ensures { result ≡ (le (neg size) x && le x size) }
 {

@@ -14,7 +14,8 @@ use verdicts::limits::from_to;
 use verdicts::verdict::{Question, Verdict, asked};
 use verdicts::years::question_1;
 
-// The lengths of all lists that a call lends. Kept as numbers and no lists: they are compared before any list may be read.
+// The lengths of all lists that a call lends.
+// Kept as numbers and no lists: one call lends its cells as i64 and another as f64, and of both the same is asked.
 #[derive(Clone, Copy, PartialEq, Eq)]
 pub struct ListLengths {
     pub payments: usize,

@@ -9,7 +9,7 @@ use products::high_product;
 use verdicts::limits::GREATEST_FIGURE;
 
 // part = quotient × exposure + remainder, where the remainder is from 0 to below the exposure; the quotient is negative exactly where the part is.
-// Kept without its exposure: a development year has one for both its ratios, and with it in each every year would be copied with two.
+// Kept without its exposure, and no plainer with it: both ratios of a development year have the same one, which would then be kept in each.
 #[derive(Clone, Copy)]
 pub struct Ratio {
     pub quotient: i64,

@@ -23,6 +23,7 @@ pub fn rounded_share(outstanding: Millionths, ratio: Ratio, exposure: u64) -> Op
 {
     let size = outstanding.0 as u64;
     // What it leaves is what the whole share leaves: outstanding × part = share × exposure + nearest.left.
+    // No code reads it, and so the compiler leaves it out: the leftover of a share is to be at hand, and the laws of the share are told by it.
     let nearest = nearest_quotient(size, ratio.remainder, ratio.fraction, exposure);
     if size > ratio.reach {
         return None;

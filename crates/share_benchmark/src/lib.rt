@@ -90,12 +90,9 @@ fn share_of(outstanding: i64, ratio: Ratio, exposure: u64) -> i64
 fn number_of(share: Option<Millionths>) -> i64
     ensures { result ≡ as_number share }
 {
-    match share {
-        Some(value) => value.0,
-        None => TOO_LARGE,
-    }
+    share.map_or(TOO_LARGE, |value| value.0)
 }
 
-const TOO_LARGE: i64 = 9_223_372_036_854_775_807;
+const TOO_LARGE: i64 = i64::MAX;
 
-const OUTSIDE: i64 = -9_223_372_036_854_775_808;
+const OUTSIDE: i64 = i64::MIN;
