@@ -21,19 +21,21 @@ pub fn write_pairs(amounts: &[i64], list: &mut [f64])
 {
     // By places: a zip of the amounts with the list's chunks was tried, and its proof did not close, since nothing is known of what the list holds after it.
     for (j, amount) in amounts.iter().enumerate() {
-        let Pair { units, millionths } = pair_of(*amount);
+        let Pair { units, millionths } = Pair::from(Millionths(*amount));
         list[2 * j] = units;
         list[2 * j + 1] = millionths;
     }
 }
 
-// Units count downward for a negative amount, so that its millionths are from 0 to 999,999.
-// No i64 has more than 2^53 units (law `amount_of_64_bits` of the crate `workbook`), so both casts are exact for every amount.
-fn pair_of(amount: i64) -> Pair
-    ensures { result ≡ pair_of amount }
-{
-    Pair {
-        units: amount.div_euclid(Millionths::ONE_UNIT.0) as f64,
-        millionths: amount.rem_euclid(Millionths::ONE_UNIT.0) as f64,
+impl From<Millionths> for Pair {
+    ghost from_gives = { λ amount pair. pair ≡ pair_of amount.0 };
+
+    // Units count downward for a negative amount, so that its millionths are from 0 to 999,999.
+    // No i64 has more than 2^53 units (law `amount_of_64_bits` of the crate `workbook`), so both casts are exact for every amount.
+    fn from(amount: Millionths) -> Pair {
+        Pair {
+            units: amount.0.div_euclid(Millionths::ONE_UNIT.0) as f64,
+            millionths: amount.0.rem_euclid(Millionths::ONE_UNIT.0) as f64,
+        }
     }
 }

@@ -13,7 +13,7 @@ loop-j-init c = refl
 pub loop-j-preserved : goal.loop-j-preserved
 loop-j-preserved c =
     let a = c.args in
-    rw (c.loop-j.invariant, c.pair_of-units.ensures, to_z-of_z {w = w64} {z = get_or a.amounts.now c.loop-j.j (pos 0)} (search rules)) (one_more_pair a.list.now a.amounts.now c.loop-j.j (omega arith))
+    rw (c.loop-j.invariant, c.from-units.ensures, to_z-of_z {w = w64} {z = get_or a.amounts.now c.loop-j.j (pos 0)} (search rules)) (one_more_pair a.list.now a.amounts.now c.loop-j.j (omega arith))
 
 pub returns : goal.returns
 returns c =
