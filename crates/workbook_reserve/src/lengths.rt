@@ -11,7 +11,8 @@ use verdicts::lengths::{amounts_length, future_length};
 use verdicts::verdict::{Question, Verdict, asked};
 use workbook_cells::lent_workbook::Workbook;
 
-// The lengths of the lists that the filling call of document 01 does not read. Kept as numbers and no lists: they are compared before any list may be read.
+// The lengths of the lists that the filling call of document 01 does not read.
+// Kept in a struct, where each has its name: as parameters, four lengths in a row would be told apart by their order alone.
 #[derive(Clone, Copy)]
 pub struct OtherLengths {
     pub payment_kinds: usize,
