@@ -1,11 +1,14 @@
 -- What a search finds: the text before it, the text from it on, and its place.
 use mathlib.Core.Path.{◌≡◌, refl, sym, ap, ◌∙◌}
-use mathlib.Core.Bool.{Bool, true, false, cond}
+use mathlib.Core.Bool.{Bool, true, false, not, ◌||◌, cond}
 use mathlib.Core.List.{List, [], ◌∷◌}
 use Prim.Native.Nat.{ℕ, zero, suc, ◌≤◌, ◌<◌}
 use native.Mathlib.Omega.{arith}
+use lib.Dec.{eqb}
 use lib.ListN.{length, get_or, take, drop, length-drop}
-use Rattle.text.specs.Search.{before, from}
+use Rattle.std.specs.List.{list_any}
+use Rattle.std.proofs.Math.Dec.{eqb-zero-suc, eqb-suc-suc}
+use Rattle.text.specs.Search.{is_byte, before, from}
 
 -- a text without a first byte is what is left after it
 pub none_first : (text : List ℕ) → length text ≡ 0 → text ≡ drop 1 text
@@ -52,3 +55,17 @@ module _ (sought : ℕ → Bool) where
   first_place (byte ∷ text) (suc place) within passed here =
       rw (sym (passed 0 (omega arith)))
       (ap suc (first_place text place (omega arith) (λ k h. passed (suc k) (omega arith)) (λ h. here (omega arith))))
+
+-- ---- A byte that a text does not have, by the library's test of all its bytes
+
+pub no_byte_by_any : (byte : ℕ) (text : List ℕ)
+    → not (list_any (λ other. eqb other byte) text) ≡ eqb (length (before (is_byte byte) text)) (length text)
+unfolding before
+no_byte_by_any byte [] = refl
+no_byte_by_any byte (other ∷ text) = go (eqb other byte) (no_byte_by_any byte text)
+  where
+    go : (found : Bool) → not (list_any (λ other. eqb other byte) text) ≡ eqb (length (before (is_byte byte) text)) (length text)
+        → not (found || list_any (λ other. eqb other byte) text)
+        ≡ eqb (length (cond found [] (other ∷ before (is_byte byte) text))) (suc (length text))
+    go true e = sym (eqb-zero-suc (length text))
+    go false e = e ∙ sym (eqb-suc-suc (length (before (is_byte byte) text)) (length text))

@@ -61,7 +61,7 @@ fn begins_comment(text: &[u8]) -> bool
 fn without_return(text: &[u8]) -> bool
     ensures { result ≡ meaning.without_return text.now }
 {
-    find(text, |byte| byte == b'\r') == text.len()
+    !text.contains(&b'\r')
 }
 
 // The first line of a text with its comment. A carriage return before a line feed is no part of it.
