@@ -11,6 +11,7 @@ use lib.IntN.{ℤ}
 use lib.ListN.{length, take, set, length-set}
 use lib.Seq.{take-suc-set}
 use Rattle.std.specs.Prelude.{Result, Ok, Err}
+use Rattle.std.specs.Bool.{then_some}
 use Rattle.figures.specs.Reading.{figure_of}
 use Rattle.line_parts.specs.Cells.{first_cell, after_cell, from_content}
 use Rattle.row_text.specs.Entries.{entry_of}
@@ -36,7 +37,7 @@ module _ (separator missing : ℕ) (cumulated openings : Bool) (count cells : �
       ap (λ left. numbers_from separator missing cumulated openings left cells figure rest) no_more
 
   pub number_follows : cells < count → ends_here openings (from_content separator rest) ≡ false
-      → numbers_left ≡ after_entry (at_cell (suc cells) (entry_of (figure_of (first_cell separator rest)) (ltb cells missing) cumulated figure))
+      → numbers_left ≡ after_entry (at_cell (suc cells) (entry_of (figure_of (first_cell separator rest)) (ltb cells missing) (then_some cumulated figure)))
       (λ next. numbers_from separator missing cumulated openings (count - suc cells) (suc cells) next (after_cell separator rest))
   unfolding numbers_from
   number_follows more not_here =

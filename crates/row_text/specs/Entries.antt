@@ -7,23 +7,23 @@ use Rattle.row_text.specs.declared.entries.CellFault.{CellFault}
 use Rattle.row_text.specs.declared.entries.CellFault.TheVariants.{NumberForBlank, WholeNumber, SixtyFourBits, DifferenceOfSixtyFourBits}
 use Rattle.row_text.specs.declared.entries.Entry.{Entry}
 
--- A cumulated figure adds its difference from the figure before it.
+-- A cumulated figure adds its difference from the figure before it; another has none before it.
 abbrev pub increment : ℤ → Option ℤ → Result Entry CellFault
 increment figure (Some difference) = Ok record { amount = difference; figure = figure }
 increment figure None = Err DifferenceOfSixtyFourBits
 
-abbrev pub of_figure : ℤ → Bool → ℤ → Result Entry CellFault
-of_figure figure true before = increment figure (exact_of (figure -ℤ before))
-of_figure figure false before = Ok record { amount = figure; figure = figure }
+abbrev pub of_figure : ℤ → Option ℤ → Result Entry CellFault
+of_figure figure (Some before) = increment figure (exact_of (figure -ℤ before))
+of_figure figure None = Ok record { amount = figure; figure = figure }
 
 -- a blank cell is 0 where it is missing
 abbrev pub of_blank : Bool → Result Entry CellFault
 of_blank true = Ok record { amount = pos 0; figure = pos 0 }
 of_blank false = Err NumberForBlank
 
--- A cell of a row, missing or not, of cumulated figures or not, after the figure before it.
-abbrev pub entry_of : Result ℤ NoFigure → Bool → Bool → ℤ → Result Entry CellFault
-entry_of (Ok figure) missing cumulated before = of_figure figure cumulated before
-entry_of (Err Blank) missing cumulated before = of_blank missing
-entry_of (Err TooLarge) missing cumulated before = Err SixtyFourBits
-entry_of (Err NotWhole) missing cumulated before = Err WholeNumber
+-- A cell of a row, missing or not, after the figure before it where the figures are cumulated.
+abbrev pub entry_of : Result ℤ NoFigure → Bool → Option ℤ → Result Entry CellFault
+entry_of (Ok figure) missing before = of_figure figure before
+entry_of (Err Blank) missing before = of_blank missing
+entry_of (Err TooLarge) missing before = Err SixtyFourBits
+entry_of (Err NotWhole) missing before = Err WholeNumber

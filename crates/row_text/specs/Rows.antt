@@ -1,5 +1,6 @@
 -- The numbers of a row of text, cell after cell.
 use Rattle.std.specs.Prelude.{◌≡◌, Bool, true, false, ◌&&◌, cond, List, [], ◌∷◌, ◌++◌, ℕ, zero, suc, ◌+◌, ◌≤◌, ◌==◌, ltb, ℤ, pos, length, take, count_by, Result, Ok, Err}
+use Rattle.std.specs.Bool.{then_some}
 use Rattle.figures.specs.Reading.{figure_of}
 use Rattle.text.specs.Bytes.{longest_text}
 use Rattle.text.specs.Search.{is_content, before}
@@ -53,7 +54,7 @@ module _ (separator : ℕ) where
   numbers_from missing cumulated openings (suc left) cells figure rest =
       cond (ends_here openings (from_content separator rest))
       (Ok [])
-      (after_entry (at_cell (suc cells) (entry_of (figure_of (first_cell separator rest)) (ltb cells missing) cumulated figure))
+      (after_entry (at_cell (suc cells) (entry_of (figure_of (first_cell separator rest)) (ltb cells missing) (then_some cumulated figure)))
       (λ next. numbers_from missing cumulated openings left (suc cells) next (after_cell separator rest)))
 
   -- A row of so many numbers, or of at most so many openings. The cells that follow are blank, and its first cells, as many as are missing, may be.

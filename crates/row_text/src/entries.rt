@@ -24,17 +24,12 @@ pub struct Entry {
     pub figure: i64,
 }
 
-// A blank cell is 0 where it is missing. A cumulated figure adds its difference from the one before it.
-pub(crate) fn entry_in(
-    cell: &[u8],
-    missing: bool,
-    cumulated: bool,
-    before: i64,
-) -> Result<Entry, CellFault>
-    ensures { result ≡ meaning.entry_of (figure_of cell.now) missing cumulated before }
+// A blank cell is 0 where it is missing. A cumulated figure, which has one before it, adds its difference from that.
+pub(crate) fn entry_in(cell: &[u8], missing: bool, before: Option<i64>) -> Result<Entry, CellFault>
+    ensures { result ≡ meaning.entry_of (figure_of cell.now) missing before }
 {
     match figure_of(cell) {
-        Ok(figure) => of_figure(figure, cumulated, before),
+        Ok(figure) => of_figure(figure, before),
         Err(NoFigure::Blank) if missing => Ok(Entry {
             amount: 0,
             figure: 0,
@@ -45,13 +40,12 @@ pub(crate) fn entry_in(
     }
 }
 
-fn of_figure(figure: i64, cumulated: bool, before: i64) -> Result<Entry, CellFault>
-    ensures { result ≡ meaning.of_figure figure cumulated before }
+fn of_figure(figure: i64, before: Option<i64>) -> Result<Entry, CellFault>
+    ensures { result ≡ meaning.of_figure figure before }
 {
-    let amount = if cumulated {
-        difference(figure, before).ok_or(CellFault::DifferenceOfSixtyFourBits)?
-    } else {
-        figure
+    let amount = match before {
+        Some(before) => { difference(figure, before).ok_or(CellFault::DifferenceOfSixtyFourBits)? }
+        None => figure,
     };
     Ok(Entry { amount, figure })
 }

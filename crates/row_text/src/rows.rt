@@ -38,7 +38,8 @@ pub fn read_row(
             return Ok(cells);
         }
         let cell = cells + 1;
-        let entry = entry_in(rest.first_cell(), cells < missing, cumulated, figure);
+        let before = cumulated.then_some(figure);
+        let entry = entry_in(rest.first_cell(), cells < missing, before);
         let entry = entry.map_err(|expected| WrongCell { cell, expected })?;
         *place = entry.amount;
         figure = entry.figure;

@@ -35,7 +35,7 @@ goes_on c =
     let a = c.args in
     let turn = c.loop-cells in
     let rest = turn.rest in
-    rw (mapped c, c.entry_in-entry.ensures, c.first_cell.ensures, add-one turn.cells)
+    rw (mapped c, c.entry_in-entry.ensures, c.first_cell.ensures, c.then_some-before.ensures, add-one turn.cells)
     (number_follows rest.separator a.missing a.cumulated a.openings (length a.list.now) turn.cells (to_z w64 turn.figure-bits) rest.bytes.now
     c.loop-cells-test.true (sym c.ends_here.ensures ∙ c.if-ends_here.false))
 
