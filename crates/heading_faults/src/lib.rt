@@ -36,6 +36,7 @@ pub struct WrongLine {
 pub fn first_fault(text: Text<'_>) -> Result<(), WrongLine>
     ensures { result ≡ meaning.heading_fault text.entry.separator (lines text.entry.bytes.now) }
 {
+    // Blank where no heading came yet, as the definition begins: an Option would be no plainer, since all that is asked is whether rows may stand here.
     let mut under = LineKind::Blank;
     for (before, bytes) in (Lines { rest: text.bytes }).enumerate() {
         let line = Text { bytes, ..text };
@@ -69,7 +70,7 @@ fn check_line(
         LineKind::Row => check(under.has_rows(), HeadingFault::HeadingBeforeRow),
         LineKind::Unknown => Err(HeadingFault::KnownHeading),
         _ => {
-            // 0 where there is none, as the definition numbers it: a line's number may be any here.
+            // Not by is_some_and: the definition gives a heading that is not there the number 0, and nothing that is asked here rules out a line of number 0.
             let first = find_heading(text, kind).map_or(0, |found| found.line);
             if first == number {
                 check_words(line, kind)

@@ -1,5 +1,5 @@
 // Where a heading stands in a text, and what it says.
-ghost use Rattle.std.specs.Prelude.{◌≡◌, ◌+◌, ◌≤◌, ◌<◌, ◌^◌, length};
+ghost use Rattle.std.specs.Prelude.{◌≡◌, ◌+◌, ◌≤◌, ◌<◌, ◌^◌, ℤ, length, unwrap_or};
 ghost use Rattle.text.specs.Lines.{lines};
 ghost use Rattle.headings.specs.Places.{HeadingFound, rows_in, line_there, row_line_after};
 ghost use Rattle.headings.specs.Places as meaning;
@@ -21,7 +21,7 @@ pub struct Heading<'a> {
 pub fn find_heading<'a>(text: Text<'a>, heading: LineKind) -> Option<Heading<'a>>
     ensures { HeadingFound text.entry.bytes.now text.entry.separator heading result }
 {
-    // Not by the iterator's next, whose promise does not say that what is left is a part of the text.
+    // Not by the iterator, and so not by its enumerate: its promise does not say that what is left is a part of the text.
     let mut line = 0;
     let mut rest = text.bytes;
     while !rest.is_empty() {
@@ -69,7 +69,7 @@ impl<'a> Heading<'a> {
         requires { self.line + length (lines self.rows.rest.now) < 2 ^ 64 }
         ensures { result ≡ line_there (row_line_after self.entry.content.separator self.entry.line row (lines self.entry.rows.rest.now)) }
     {
-        // Counted here: only some of the lines are rows, and a heading ends them.
+        // Tried as enumerate, map, take_while, filter and nth: the proofs of what nth asks of the closures, and of what it gives, did not close.
         let mut left = row;
         for (before, bytes) in self.rows.enumerate() {
             let kind = kind_of(Text {
@@ -97,14 +97,12 @@ fn left_after(row: bool, left: usize) -> usize
     if row { left.saturating_sub(1) } else { left }
 }
 
-// The number that a word after a heading is, or another where the text has no such heading.
-pub fn number_after(text: Text<'_>, heading: LineKind, number: usize, other: i64) -> i64
-    ensures { result ≡ meaning.number_after text.entry.separator heading number other (lines text.entry.bytes.now) }
+// The number that a word after a heading is, where the text has such a heading and the word is a number.
+pub fn number_after(text: Text<'_>, heading: LineKind, number: usize) -> Option<i64>
+    ensures { (other : ℤ) → unwrap_or result other ≡ meaning.number_after text.entry.separator heading number other (lines text.entry.bytes.now) }
 {
-    match find_heading(text, heading) {
-        Some(found) => figure_of(found.content.word(number)).unwrap_or(other),
-        None => other,
-    }
+    let found = find_heading(text, heading)?;
+    figure_of(found.content.word(number)).ok()
 }
 
 // Whether the rows under a heading are cumulated.
@@ -112,10 +110,7 @@ pub fn number_after(text: Text<'_>, heading: LineKind, number: usize, other: i64
 pub fn is_cumulated(text: Text<'_>, heading: LineKind) -> bool
     ensures { result ≡ meaning.is_cumulated text.entry.separator heading (lines text.entry.bytes.now) }
 {
-    match find_heading(text, heading) {
-        Some(found) => says_cumulated(found.content.word(1)),
-        None => false,
-    }
+    find_heading(text, heading).is_some_and(|found| says_cumulated(found.content.word(1)))
 }
 
 pub fn says_cumulated(word: &[u8]) -> bool

@@ -34,7 +34,7 @@ pub struct Asked {
 }
 
 // What is asked, and how many numbers of each list were read. The lists are arrays with these counts beside them,
-// since one that grows would have to allocate, and reading a text could then fail where memory runs out.
+// since one that grows would allocate, and a call that needs no memory would then fail where there is none.
 #[derive(Clone, Copy)]
 pub struct TextRead {
     pub asked: Asked,
@@ -46,6 +46,7 @@ pub struct TextRead {
 
 // Reads a text into the lists from their left, or answers its first fault; what the lists then hold is left open.
 // Lists are read where questions 1 and 2 accept the number of accident years and the cut; elsewhere they are empty.
+// The four lists are handed in one by one: a struct of lent lists would be made by the one caller and taken apart in read_lists, no plainer.
 pub fn read_text(
     bytes: &[u8],
     payments: &mut [i64; SEEN_CELLS],
@@ -90,7 +91,7 @@ fn asked_in(short: ShortText<'_>) -> Asked
     let text = short.text;
     Asked {
         years: years_in(short),
-        cut: number_after(text, LineKind::Cut, 1, 1),
+        cut: number_after(text, LineKind::Cut, 1).unwrap_or(1),
         payments_cumulated: is_cumulated(text, LineKind::Payments),
         adjustments_cumulated: is_cumulated(text, LineKind::Adjustments),
         weights_given: find_heading(text, LineKind::Weights).is_some(),
@@ -113,8 +114,8 @@ fn cell_in(text: Text<'_>) -> Option<Place>
 {
     find_heading(text, LineKind::Cell)?;
     Some(Place {
-        accident_year: number_after(text, LineKind::Cell, 1, 0),
-        development_year: number_after(text, LineKind::Cell, 2, 0),
+        accident_year: number_after(text, LineKind::Cell, 1).unwrap_or(0),
+        development_year: number_after(text, LineKind::Cell, 2).unwrap_or(0),
     })
 }
 

@@ -16,7 +16,7 @@ returns c =
     let all = lines c.args.short.text.bytes.now in
     rw (
       read_back {m = pos (rows_in separator (lines_under separator Payments all))} (record { sfits = c.years_in.type_inv }) c.years_in.ensures,
-      read_back {m = number_after separator Cut 1 (pos 1) all} (record { sfits = c.number_after.type_inv }) c.number_after.ensures,
+      read_back {m = number_after separator Cut 1 (pos 1) all} (record { sfits = c.unwrap_or.type_inv }) (c.unwrap_or.ensures ∙ c.number_after.ensures (pos 1)),
       c.is_cumulated.ensures,
       c.is_cumulated-2.ensures,
       c.is_some.ensures ∙ given c.find_heading.result c.find_heading.ensures,

@@ -18,7 +18,7 @@ returns c =
     let separator = c.args.text.separator in
     let all = lines c.args.text.bytes.now in
     rw (
-      read_back {m = number_after separator Cell 1 (pos 0) all} (record { sfits = c.number_after.type_inv }) c.number_after.ensures,
-      read_back {m = number_after separator Cell 2 (pos 0) all} (record { sfits = c.number_after-2.type_inv }) c.number_after-2.ensures,
+      read_back {m = number_after separator Cell 1 (pos 0) all} (record { sfits = c.unwrap_or.type_inv }) (c.unwrap_or.ensures ∙ c.number_after.ensures (pos 0)),
+      read_back {m = number_after separator Cell 2 (pos 0) all} (record { sfits = c.unwrap_or-2.type_inv }) (c.unwrap_or-2.ensures ∙ c.number_after-2.ensures (pos 0)),
       sym (given (Some c.in_ok-find_heading.field-0) (rw c.in_ok-find_heading.was at c.find_heading.ensures)),
     )
