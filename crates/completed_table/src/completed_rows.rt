@@ -23,6 +23,7 @@ pub enum Table {
     Outstandings,
 }
 
+// The line above a table.
 pub fn table_title(table: Table) -> Line
     ensures { LineIs (meaning.table_title table) result }
 {
@@ -93,7 +94,7 @@ impl CompletedTable<'_> {
                 accident_year: i,
                 development_year: k + 1,
             };
-            line = with_shown(line, self.shown_in(cell), part.column);
+            line = with_shown_entry(line, self.shown_in(cell), part.column);
         }
         line
     }
@@ -149,7 +150,7 @@ impl CompletedTable<'_> {
 }
 
 // A line with what is shown in a cell as an entry.
-fn with_shown(line: Line, shown: Shown, column: usize) -> Line
+fn with_shown_entry(line: Line, shown: Shown, column: usize) -> Line
     ensures { After line (entry column (meaning.shown_entry shown)) result }
 {
     match shown {

@@ -15,7 +15,7 @@ loop-k-init c = λ within r after. line_after c.label-line.ensures after
 
 pub loop-k-preserved : goal.loop-k-preserved
 loop-k-preserved c = λ within r after.
-    let entry = rw (c.shown_in.ensures.is within) at c.with_shown-line.ensures in
+    let entry = rw (c.shown_in.ensures.is within) at c.with_shown_entry-line.ensures in
     c.loop-k.invariant within r (one_entry_more (entry_in (goal.at.loop-k-preserved c).Start) c.args.part.column c.loop-k.k c.args.part.last (omega arith) entry after)
 
 pub returns : goal.returns
