@@ -12,6 +12,7 @@ use triangle_text::reading::read_text;
 use verdicts::lengths::{SEEN_CELLS, WEIGHTED_CELLS};
 use verdicts::limits::ACCIDENT_YEARS;
 
+// The length is asked by itself, here and below: the struct of a short text is triangle_text's own.
 pub(crate) fn answer(rt: &impl Print, text: &[u8]) -> io::Result<()>
     requires { length text.now ≤ longest_text }
 {
@@ -63,7 +64,7 @@ fn is_no_text(text: &[u8]) -> bool {
 }
 
 // A text that was read is answered by a call, or by its first fault.
-// Its lists have fixed room, with their counts beside: into lists that grow, a reading could fail for want of memory.
+// Its lists have the fixed room that the reader asks for, and their counts stand in what it answers.
 fn answer_text(rt: &impl Print, text: &[u8]) -> io::Result<()>
     requires { length text.now ≤ longest_text }
 {

@@ -39,7 +39,7 @@ pub struct ReserveTable<'a> {
 }
 
 impl ReserveTable<'_> {
-    // The row of accident year i.
+    // The row of accident year i. 13 is the width of the first heading.
     pub fn row(&self, i: usize, column: usize) -> Line
         requires { (1 ≤ i) × (i ≤ most_accident_years) }
         ensures { LineIs (meaning.reserves_row self.now.outstandings self.now.reserves.now i column) result }
@@ -54,6 +54,7 @@ impl ReserveTable<'_> {
             .with_entry(closing.text(), column)
     }
 
+    // The last row: the total of each column.
     pub fn totals_row(&self, column: usize) -> Line
         ensures { LineIs (meaning.totals_row self.now.n self.now.outstandings self.now.reserves.now column) result }
     {
@@ -73,14 +74,14 @@ impl ReserveTable<'_> {
         total_of(0..self.n, |place| self.outstandings[place])
     }
 
-    // The total of one of the three figures of the reserve list.
+    // The total of one of the three figures of the reserve list. This and its width are no one function with those of the outstandings: list, places and units are others.
     fn reserves_total(&self, figure: ReserveFigure) -> Option<i64>
         ensures { result ≡ meaning.reserves_total self.now.reserves.now (reserve_place figure) self.now.n }
     {
         total_of(1..self.n + 1, |i| reserve_at(self.reserves, figure, i))
     }
 
-    // The width of the widest entry: a figure, a total or the widest heading.
+    // The width of the widest entry: a figure, a total or the widest heading, which has 19 bytes.
     #[tactic(auto, unfolding(crate::specs::ReserveRows::reserves_column))]
     pub fn column(&self) -> usize
         ensures { result ≡ meaning.reserves_column self.now.n self.now.outstandings self.now.reserves.now }

@@ -13,6 +13,7 @@ pub(crate) fn total_of<F: Fn(usize) -> i64>(places: Range<usize>, number: F) -> 
     ensures { TotalOf (F.post number) places.start places.end result }
 {
     // tried as a try_fold: that the number may be asked at each of its turns did not close, since that is known of these places only
+    // The bounds are named, as in `widest` of printed.
     let mut total = 0;
     for place in places.start..places.end {
         total = sum(total, number(place))?;
@@ -36,7 +37,7 @@ pub(crate) fn with_total<F: Fn(i64) -> Written>(
     }
 }
 
-// The width of that entry.
+// The width of that entry: 13 is that of the words.
 pub(crate) fn total_width<F: Fn(i64) -> Written>(total: Option<i64>, written: F) -> usize
     requires { F.IsAlwaysCallable written }
     ensures { TotalWidth (F.post written) total result }

@@ -1,7 +1,7 @@
 // One case: a line of fields, parted by '|'.
-//   reserve|what is tried|n Y|payments|adjustments|weights|openings|lengths of both answer lists, and the place of the reserves to print
-//   cell|what is tried|n Y|payments|adjustments|weights|openings|accident year and development year
-//   payments|what is tried|n|payments|adjustments|||accident year       (and adjustments in the same way)
+//   reserve|what is tried|accident years and cut|payments|adjustments|weights|openings|lengths of both answer lists, and the place of the reserves to print
+//   cell|what is tried|accident years and cut|payments|adjustments|weights|openings|accident year and development year
+//   payments|what is tried|accident years|payments|adjustments|||accident year       (and adjustments in the same way)
 use crate::cell_call::try_cell;
 use crate::numbers::read_numbers;
 use crate::printing::print;
@@ -24,7 +24,7 @@ pub(crate) fn work(rt: &impl Print, line: &[u8]) {
 }
 
 // Reads what is lent, and the numbers of the last field, which mean what the call takes them for; 0 where a field has fewer.
-// There is room for the lists of 33 accident years, one more than a triangle may have. It is fixed, so that no reading fails for want of memory.
+// There is room for the lists of 33 accident years, one more than a triangle may have. A case with more is printed as malformed.
 fn try_case(rt: &impl Print, fields: Text<'_>) {
     let mut payments = [0; 561];
     let mut adjustments = [0; 561];

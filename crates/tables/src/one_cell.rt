@@ -17,7 +17,7 @@ pub fn cell_title(accident_year: i64, development_year: i64) -> Line
     )
 }
 
-// The width of the widest of three figures, in millionths.
+// The width of the widest of three figures, in millionths. They stand by themselves: this crate knows no projection, whose movement they are.
 #[tactic(auto, using(integers::proofs::MachineArithmetic::held), unfolding(crate::specs::OneCell::cell_column))]
 pub fn cell_column(payment: i64, adjustment: i64, outstanding: i64) -> usize
     ensures { result ≡ meaning.cell_column payment adjustment outstanding }
