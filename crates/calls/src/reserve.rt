@@ -50,6 +50,7 @@ fn fill(triangle: Triangle<'_>, future: &mut [i64], reserves: &mut [i64]) -> Ver
 }
 
 // The same for a triangle that questions 1 to 8 have accepted. It stays a call of its own, so that its stack is not taken while a triangle is read.
+// Of the triangle it reads n alone; its contract speaks of the whole of it.
 #[inline(never)]
 fn fill_accepted(
     triangle: Triangle<'_>,

@@ -15,7 +15,7 @@ use verdicts::lengths::cells_before;
 use verdicts::limits::{GREATEST_OUTSTANDING, from_to};
 use verdicts::verdict::{Question, Verdict, asked_at};
 
-// The first opening or outstanding out of range, if there is one. It lends what it reads, and no weights.
+// The first opening or outstanding out of range, if there is one. It takes what it reads, and no weights.
 // A walk of its own, and not `first_refusal`: a test of that walk keeps nothing from one cell to the next, and each outstanding is made from the one before.
 pub fn question_6<'a>(
     n: usize,

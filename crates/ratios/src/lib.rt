@@ -43,7 +43,7 @@ pub fn development_of(triangle: Triangle<'_>) -> Development
     let n = triangle.years as usize;
     let mut ratios = [NO_SUMS; DEVELOPMENT_YEARS];
     let mut outstandings = first_outstandings(n, triangle);
-    // By k: a zip knows nothing of the list that it writes, and k is asked for too.
+    // By k, which is asked for too: a zip with the years would say no more.
     for k in 1..n {
         ratios[k - 1] = development_year(n, k, triangle, &mut outstandings);
     }
@@ -59,7 +59,7 @@ fn first_outstandings(n: usize, triangle: Triangle<'_>) -> [i64; ACCIDENT_YEARS]
     ensures { FirstOutstandings n triangle.entry.payments.now triangle.entry.adjustments.now triangle.entry.openings.now result }
 {
     let mut outstandings = [0; ACCIDENT_YEARS];
-    // By r: a zip knows nothing of the list that it writes.
+    // By r, which says where a row begins and which opening is its own.
     for r in 0..n {
         let start = cells_before(n, r);
         outstandings[r] = next_outstanding(
@@ -84,7 +84,7 @@ fn development_year(
 {
     let mut sums = NO_SUMS;
     // Each row is entered at year k of its weights and at year k + 1 of its amounts. The weights have a row less.
-    // Both places are moved on by one addition a cell, where `cells_before` would take two products.
+    // Both are moved on here: of `cells_before`, once a cell, it would be harder to see that they go down a column.
     let mut weight_at = k - 1;
     let mut amount_at = k;
     for r in 0..n - k {

@@ -4,7 +4,11 @@ use mathlib.Core.Bool.{Bool}
 use mathlib.Core.List.{List}
 use Prim.Native.Nat.{ℕ, ◌+◌, ◌-◌, ◌≤◌, ◌<◌}
 use native.Mathlib.Omega.{arith}
-use lib.IntN.{ℤ}
+use lib.Dec.{T}
+use lib.IntN.{ℤ, nat_abs}
+use lib.Signed.{non_neg}
+use mir.Syntax.{w64}
+use mir.Val.{Fits}
 use Rattle.std.proofs.Common.{Option, Some, Ok}
 use Rattle.method.specs.Triangle.{Triangle, n, entry, future_length, reserves_length}
 use Rattle.method.specs.Outstandings.{R, sums}
@@ -20,6 +24,7 @@ use Rattle.method.proofs.QuestionFacts.{Observed, observed_triangle, exposures_p
 use Rattle.method.proofs.Readings.{R_in_range}
 use Rattle.method.proofs.SameRows.{SameRow, same_question_9, same_future, same_reserves}
 use Rattle.method.proofs.SumBounds.{sums_in_range}
+use Rattle.verdicts.proofs.Counts.{count_fits}
 use Rattle.lent.specs.declared.AnswerLengths.{AnswerLengths}
 use Rattle.lent.specs.Triangles.{lists_right}
 use Rattle.questions.proofs.Counted.{lists_have_lengths}
@@ -124,6 +129,10 @@ module _ {t : Triangle} {answers : Option AnswerLengths} {d : Development} (e : 
 
   pub years_observed : Observed t
   years_observed = observed t answers accepted_reading
+
+  -- its number of years, as the code casts it
+  pub years_fit : T (non_neg t.years) × Fits w64 (nat_abs t.years)
+  years_fit = let y = years_observed.years in count_fits t.years y.counted y.most
 
   pub can_be_prepared : Preparable (n t) d.ratios d.outstandings
   can_be_prepared = preparable e.development_is years_observed (both t answers accepted_reading).1

@@ -15,7 +15,8 @@ use row_states::RowState;
 use share::millionths::Millionths;
 use verdicts::verdict::{Question, Refusal, Verdict, refusal_at};
 
-// The reserves of an accident year, and the payment of its first projected year: 0 for accident year 1, which has none.
+// The reserves of an accident year, and the payment of its first projected year: 0 for accident year 1, which has none,
+// and no Option, since it is the first number of the year's row as document 01 reads an entry beyond a list's end. The calls of a host do not read it.
 #[derive(Clone, Copy)]
 pub struct ProjectedRow {
     pub paid: Millionths,
@@ -76,6 +77,7 @@ pub fn project_row<D: Destination>(
     ensures { RowWritten (method_read triangle.now) i (D.start destination) list.old result list.new }
 {
     let mut state = RowState::first(triangle.outstandings[i - 1]);
+    // The loop's count says where the figures of a year go, the state's which year follows: the same number, of a destination and of a year.
     for projected in 0..i - 1 {
         // The year from k to k + 1 stands at k − 1, and a refusal is told at k + 1.
         let place = state.place_of_next_year(triangle.n, i);

@@ -40,6 +40,7 @@ pub fn single_cell(triangle: Triangle<'_>, cell: Place) -> Result<Movement, Refu
 }
 
 // The cell of a triangle that questions 1 to 8 have accepted. It stays a call of its own, so that a prepared triangle takes no stack while one is read.
+// Of the triangle it reads n alone; its contract speaks of the whole of it.
 #[inline(never)]
 fn projected_cell(
     triangle: Triangle<'_>,

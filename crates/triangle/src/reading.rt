@@ -29,7 +29,8 @@ pub fn read(triangle: Triangle<'_>, answers: Option<AnswerLengths>) -> Result<De
 }
 
 // The verdict of questions 1 to 8. Where they accept, what the triangle shows is written in the development; else that stays as it is.
-// It stays a call of its own, so that what `read` takes of the stack is free again when the triangle is projected.
+// It stays a call of its own, and its answer no Result of a development: what `read` takes of the stack, of which the header of the C interface says how much a call uses,
+// is free again when the triangle is projected.
 #[inline(never)]
 pub fn read_into(
     triangle: Triangle<'_>,

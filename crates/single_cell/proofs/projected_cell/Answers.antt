@@ -11,7 +11,7 @@ use Rattle.lent.specs.Triangles.{triangle_of}
 use Rattle.verdicts.specs.Verdicts.{verdict_of}
 use Rattle.verdicts.proofs.Counts.{count_fits}
 use Rattle.prepared_years.specs.PreparedTriangles.{Prepared}
-use Rattle.run_off.proofs.ReadTriangles.{accepted_reading, question_1_passed, years_observed, can_be_prepared}
+use Rattle.run_off.proofs.ReadTriangles.{accepted_reading, question_1_passed, years_observed, years_fit, can_be_prepared}
 use Rattle.single_cell.proofs.WholeCells.{refused_projection, refused_years, unseen, cell_year, cell_later, accepted_whole}
 use Rattle.single_cell.proofs.projected_cell.Goals as goal
 use Rattle.single_cell.proofs.projected_cell.Goals.{After-asked, After-prepare, In_ok-asked}
@@ -19,8 +19,7 @@ use Rattle.single_cell.proofs.projected_cell.Goals.{After-asked, After-prepare, 
 pub overflow_cast-triangle : goal.overflow_cast-triangle
 overflow_cast-triangle c =
     let held : Held c.args.triangle.years = search rules in
-    let years = (years_observed c.requires).years in
-    simp held (count_fits c.args.triangle.years years.counted years.most)
+    simp held (years_fit c.requires)
 
 pub prepare-requires : goal.prepare-requires
 prepare-requires c =

@@ -1,16 +1,14 @@
 -- What was read, prepared and projected.
 use borrow.Author.Rules.{rules}
 use Rattle.integers.proofs.MachineArithmetic.{Held}
-use Rattle.verdicts.proofs.Counts.{count_fits}
-use Rattle.run_off.proofs.ReadTriangles.{years_observed, can_be_prepared}
+use Rattle.run_off.proofs.ReadTriangles.{years_fit, can_be_prepared}
 use Rattle.calls.proofs.BothLists.{lists_measured, projected}
 use Rattle.calls.proofs.reserve.fill_accepted.Goals as goal
 
 pub overflow_cast-triangle : goal.overflow_cast-triangle
 overflow_cast-triangle c =
     let held : Held c.args.triangle.years = search rules in
-    let years = (years_observed c.requires).years in
-    simp held (count_fits c.args.triangle.years years.counted years.most)
+    simp held (years_fit c.requires)
 
 pub prepare-requires : goal.prepare-requires
 prepare-requires c =
