@@ -9,7 +9,7 @@ ghost use Rattle.verdicts.specs.Verdicts.{verdict_of};
 ghost use Rattle.list_lengths.specs.Lengths.{answers_right, list_lengths_right, questions_1_to_3};
 
 use lent::AnswerLengths;
-use verdicts::lengths::{amounts_length, future_length, weights_length};
+use verdicts::lengths::{amounts_length, future_length, reserves_length, weights_length};
 use verdicts::limits::from_to;
 use verdicts::verdict::{Question, Verdict, asked};
 use verdicts::years::question_1;
@@ -64,5 +64,6 @@ fn answers_right(n: usize, answers: Option<AnswerLengths>) -> bool
     requires { n ≤ most_accident_years }
     ensures { result ≡ answers_right n answers }
 {
-    answers.is_none_or(|lent| (lent.future == future_length(n)) & (lent.reserves == 3 * n))
+    answers.is_none_or(|lent| (lent.future == future_length(n))
+        & (lent.reserves == reserves_length(n)))
 }

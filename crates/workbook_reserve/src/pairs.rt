@@ -9,11 +9,8 @@ ghost use Rattle.workbook_reserve.specs.Workbooks.{FilledInPairs};
 use calls::reserve::reserve;
 use lent::Triangle;
 use reserve_pairs::write_pairs;
-use verdicts::limits::ACCIDENT_YEARS;
+use verdicts::lengths::RESERVE_FIGURES;
 use verdicts::verdict::Verdict;
-
-// Room for the reserve list.
-const RESERVES: usize = 3 * ACCIDENT_YEARS;
 
 // As `reserve`, but that the reserves are written as pairs, and nothing is said of what a refused call leaves in the lists.
 pub(crate) fn reserve_in_pairs(
@@ -24,7 +21,7 @@ pub(crate) fn reserve_in_pairs(
     requires { (nat_abs triangle.years ≤ most_accident_years) × (length pairs.old ≡ pairs_length (nat_abs triangle.years)) }
     ensures { FilledInPairs (triangle_of triangle.entry) (length future.old) (verdict_of result) future.new pairs.new }
 {
-    let mut room = [0i64; RESERVES];
+    let mut room = [0i64; RESERVE_FIGURES];
     let reserves = &mut room[..pairs.len() / 2];
     reserve(triangle, future, reserves)?;
     write_pairs(reserves, pairs);
