@@ -16,8 +16,7 @@ use tables::accepted::{
 use tables::one_cell::{cell_column, cell_line, cell_title};
 use triangle::reading::read;
 use triangle_text::reading::Asked;
-use verdicts::lengths::{WEIGHTED_CELLS, future_length};
-use verdicts::limits::ACCIDENT_YEARS;
+use verdicts::lengths::{FUTURE_FIGURES, RESERVE_FIGURES, future_length, reserves_length};
 use verdicts::verdict::{Place, Refusal};
 
 // A text, what it asks for, and the triangle that was read from it.
@@ -77,18 +76,13 @@ fn print_accepted(rt: &impl Print, asked: Asked) -> io::Result<()> {
     }
 }
 
-// Room for the answer lists of the largest triangle.
-const FUTURE_FIGURES: usize = 3 * WEIGHTED_CELLS;
-
-const RESERVE_FIGURES: usize = 3 * ACCIDENT_YEARS;
-
 // Makes the two answer lists, of the lengths that an accepted call wants.
 fn call_reserve(rt: &impl Print, read: ReadText<'_, '_>) -> io::Result<()> {
     let mut future = [0; FUTURE_FIGURES];
     let mut reserves = [0; RESERVE_FIGURES];
     let n = count_of(read.asked.years);
     let future = &mut future[..future_length(n)];
-    let reserves = &mut reserves[..3 * n];
+    let reserves = &mut reserves[..reserves_length(n)];
     match answered(read.triangle, future, reserves) {
         Ok(development) => {
             print_accepted(rt, read.asked)?;

@@ -65,10 +65,7 @@ fn read_from<R: Read + Drop>(
     if let Err(error) = first.read_to_end(&mut text) {
         return fail(rt, name, error);
     }
-    match print_answer(rt, text.as_slice()) {
-        Ok(()) => Ok(()),
-        Err(error) => fail(rt, "standard output", error),
-    }
+    print_answer(rt, text.as_slice()).or_else(|error| fail(rt, "standard output", error))
 }
 
 fn print_answer(rt: &impl Print, text: &[u8]) -> io::Result<()> {

@@ -22,7 +22,6 @@ pub(crate) fn print_tables<'a>(
     reserves: &'a [i64],
 ) -> io::Result<()> {
     let n = count_of(triangle.years);
-    let outstandings = development.outstandings;
     let lists = CompletedLists {
         cut: count_of(triangle.cut),
         observed: ObservedLists::from(triangle),
@@ -31,26 +30,25 @@ pub(crate) fn print_tables<'a>(
     print_reserves(
         rt,
         ReserveTable {
-            n,
-            outstandings,
+            outstandings: &development.outstandings[..n],
             reserves,
         },
     )?;
     print_completed(rt, n, lists)?;
-    print_sums(rt, n, development.ratios)
+    print_sums(rt, n, &development.ratios)
 }
 
 fn print_reserves(rt: &impl Print, table: ReserveTable<'_>) -> io::Result<()> {
     let column = table.column();
     print_empty_line(rt)?;
     print_two(rt, reserves_title(), reserves_heading(column))?;
-    for i in 1..table.n + 1 {
+    for i in 1..table.outstandings.len() + 1 {
         print_line(rt, table.row(i, column))?;
     }
     print_line(rt, table.totals_row(column))
 }
 
-fn print_sums(rt: &impl Print, n: usize, ratios: [Sums; DEVELOPMENT_YEARS]) -> io::Result<()>
+fn print_sums(rt: &impl Print, n: usize, ratios: &[Sums; DEVELOPMENT_YEARS]) -> io::Result<()>
     requires { n ≤ most_accident_years }
 {
     let column = sums_column(n, ratios);

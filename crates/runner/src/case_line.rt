@@ -31,13 +31,13 @@ fn try_case(rt: &impl Print, fields: Text<'_>) {
     let mut weights = [0; 528];
     let mut openings = [0; 32];
     let mut size = [0; 2];
-    let mut last = [0; 3];
+    let mut call_numbers = [0; 3];
     let payments = read_numbers(rt, fields.field(3), &mut payments);
     let adjustments = read_numbers(rt, fields.field(4), &mut adjustments);
     let weights = read_numbers(rt, fields.field(5), &mut weights);
     let openings = read_numbers(rt, fields.field(6), &mut openings);
     read_numbers(rt, fields.field(2), &mut size);
-    read_numbers(rt, fields.field(7), &mut last);
+    read_numbers(rt, fields.field(7), &mut call_numbers);
     let triangle = Triangle {
         years: size[0],
         cut: size[1],
@@ -46,16 +46,16 @@ fn try_case(rt: &impl Print, fields: Text<'_>) {
         weights,
         openings,
     };
-    call(rt, fields.bytes, triangle, last);
+    call(rt, fields.bytes, triangle, call_numbers);
 }
 
 // The first letter of a line tells the call.
-fn call(rt: &impl Print, line: &[u8], triangle: Triangle<'_>, last: [i64; 3]) {
+fn call(rt: &impl Print, line: &[u8], triangle: Triangle<'_>, call_numbers: [i64; 3]) {
     match line.first() {
-        Some(b'r') => try_reserve(rt, triangle, last),
-        Some(b'c') => try_cell(rt, triangle, last),
-        Some(b'p') => try_row(rt, triangle, AmountList::Payments, last[0]),
-        Some(b'a') => try_row(rt, triangle, AmountList::Adjustments, last[0]),
+        Some(b'r') => try_reserve(rt, triangle, call_numbers),
+        Some(b'c') => try_cell(rt, triangle, call_numbers),
+        Some(b'p') => try_row(rt, triangle, AmountList::Payments, call_numbers[0]),
+        Some(b'a') => try_row(rt, triangle, AmountList::Adjustments, call_numbers[0]),
         _ => print(rt, b"no such call"),
     }
 }

@@ -6,8 +6,8 @@ use single_cell::single_cell;
 use verdicts::verdict::Place;
 
 // Prints the verdict, and the cell's figures or whether a host is refused too and handed zeros.
-pub(crate) fn try_cell(rt: &impl Print, triangle: Triangle<'_>, last: [i64; 3]) {
-    let [accident_year, development_year, _] = last;
+pub(crate) fn try_cell(rt: &impl Print, triangle: Triangle<'_>, call_numbers: [i64; 3]) {
+    let [accident_year, development_year, _] = call_numbers;
     let cell = Place {
         accident_year,
         development_year,

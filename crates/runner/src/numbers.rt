@@ -1,10 +1,14 @@
 // Numbers in a text.
+ghost use Rattle.std.specs.Prelude.{◌≤◌, length};
+
 use crate::printing::print;
 use figures::reading::figure_of;
 
 // Reads the numbers of a field, which a space parts, into room that is lent, and hands out the part of it that they take.
 // Those that the room does not hold are left out, and the case is printed as malformed.
-pub(crate) fn read_numbers<'a>(rt: &impl Print, field: &[u8], room: &'a mut [i64]) -> &'a [i64] {
+pub(crate) fn read_numbers<'a>(rt: &impl Print, field: &[u8], room: &'a mut [i64]) -> &'a [i64]
+    ensures { length result.now ≤ length room.old }
+{
     for (place, word) in room
         .iter_mut()
         .zip(field.split_inclusive(|byte| *byte == b' '))

@@ -7,8 +7,8 @@ use lent::Triangle;
 use lists::number_at;
 
 // Prints the verdict, and the reserves at a place of the reserve list or whether both lists hold zeros throughout.
-pub(crate) fn try_reserve(rt: &impl Print, triangle: Triangle<'_>, last: [i64; 3]) {
-    let [future_length, reserves_length, place] = last;
+pub(crate) fn try_reserve(rt: &impl Print, triangle: Triangle<'_>, call_numbers: [i64; 3]) {
+    let [future_length, reserves_length, place] = call_numbers;
     // Every number of both lists is 7 before the call. There is room for the lists of 33 accident years, and a case lends a part of it.
     let mut future_room = [7; 1584];
     let mut reserves_room = [7; 99];

@@ -29,9 +29,9 @@ pub fn sums_heading(column: usize) -> Line
 
 // The row of development year k, whose sums project from that year to the next.
 // The ratios stand by themselves, and so does a year with its bound: a struct of n and the ratios would ask for an n that a row does not need.
-pub fn sums_row(ratios: [Sums; DEVELOPMENT_YEARS], k: usize, column: usize) -> Line
+pub fn sums_row(ratios: &[Sums; DEVELOPMENT_YEARS], k: usize, column: usize) -> Line
     requires { (1 ≤ k) × (k < most_accident_years) }
-    ensures { LineIs (meaning.sums_row ratios k column) result }
+    ensures { LineIs (meaning.sums_row ratios.now k column) result }
 {
     let sums = ratios[k - 1];
     years_label(k)
@@ -54,11 +54,11 @@ fn years_label(k: usize) -> Line
         .with_text(to.text())
 }
 
-// The width of the widest sum, or of a heading.
+// The width of the widest sum, or of a heading. n stands beside: a slice of n − 1 sums would ask for the bound of its length in its place.
 #[tactic(auto, unfolding(crate::specs::SumsRows::sums_column))]
-pub fn sums_column(n: usize, ratios: [Sums; DEVELOPMENT_YEARS]) -> usize
+pub fn sums_column(n: usize, ratios: &[Sums; DEVELOPMENT_YEARS]) -> usize
     requires { n ≤ most_accident_years }
-    ensures { result ≡ meaning.sums_column n ratios }
+    ensures { result ≡ meaning.sums_column n ratios.now }
 {
     widest(1, 0..n.saturating_sub(1), |place| sums_width(ratios[place]))
 }

@@ -11,7 +11,7 @@ use Rattle.tables.proofs.sums_rows.sums_row.Goals as goal
 pub returns : goal.returns
 unfolding sums_row
 returns c =
-    let sums = get_or c.args.ratios (c.args.k - 1) no_sums in
+    let sums = get_or c.args.ratios.now (c.args.k - 1) no_sums in
     line_after c.years_label.ensures
     (both_after (rw (c.text.ensures ∙ c.whole.ensures.text ∙ ap whole_text (held sums.payments (omega arith))) at c.with_entry.ensures)
     (both_after (rw (c.text-2.ensures ∙ c.whole-2.ensures.text ∙ ap whole_text (held sums.adjustments (omega arith))) at c.with_entry-2.ensures)

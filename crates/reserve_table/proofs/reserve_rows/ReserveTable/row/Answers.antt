@@ -1,6 +1,5 @@
 -- Four entries after the accident year, each read off its list.
 use mathlib.Core.Path.{ap, ◌∙◌}
-use Rattle.std.proofs.Common.{pos, get_or, ◌-◌, arith}
 use Rattle.integers.proofs.MachineArithmetic.{held}
 use Rattle.written_figures.specs.Writing.{whole_text, amount_text}
 use Rattle.printed.proofs.LineTexts.{both_after, line_after}
@@ -10,7 +9,7 @@ use Rattle.reserve_table.proofs.reserve_rows.ReserveTable.row.Goals as goal
 pub returns : goal.returns
 unfolding reserves_row
 returns c =
-    let outstanding = held (get_or c.args.self.now.outstandings (c.args.i - 1) (pos 0)) (omega arith) in
+    let outstanding = held c.number_at.result c.number_at.type_inv ∙ c.number_at.ensures in
     let paid = held c.reserve_at.result c.reserve_at.type_inv ∙ c.reserve_at.ensures in
     let incurred = held c.reserve_at-2.result c.reserve_at-2.type_inv ∙ c.reserve_at-2.ensures in
     let closing = held c.reserve_at-3.result c.reserve_at-3.type_inv ∙ c.reserve_at-3.ensures in
