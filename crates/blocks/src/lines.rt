@@ -40,7 +40,7 @@ pub fn read_lines(
     // Counted here: rows are only some of the lines, and how many numbers a row of openings has only its reading tells.
     let mut count = 0;
     let mut rows = 0;
-    // Counted on from the heading's own line, whose number is handed in: enumerate would count anew, and the sum of both say less plainly which line it is.
+    // Counted on from the heading's own line: enumerate would count from 0, and what is told of a line would be told of a sum.
     let mut number = number;
     for bytes in below {
         number += 1;

@@ -17,11 +17,10 @@ use std::fs::File;
 use std::io::Read;
 use std::rt::Files;
 use std::{io, str};
+use text::lines::LONGEST_TEXT;
 
 // The name of a file has at most as many bytes, and one byte more of 0 after them.
 const LONGEST_NAME: usize = 4095;
-
-const LONGEST_TEXT: usize = 65_536;
 
 fn main(rt: HostRuntime) -> io::Result<()> {
     if is_given(&rt, 2) {

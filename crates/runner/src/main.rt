@@ -13,13 +13,11 @@ mod row_call;
 
 use std::io;
 use std::io::Read;
-
-// What is read at most.
-const LONGEST_TEXT: u64 = 65_536;
+use text::lines::LONGEST_TEXT;
 
 fn main(rt: HostRuntime) -> io::Result<()> {
     let mut cases = Vec::new(rt.alloc());
-    let mut input = rt.reader().take(LONGEST_TEXT);
+    let mut input = rt.reader().take(LONGEST_TEXT as u64);
     // A read that fails ends the input.
     let _ = input.read_to_end(&mut cases);
     work_lines(&rt, cases.as_slice());

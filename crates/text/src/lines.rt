@@ -6,6 +6,9 @@ ghost use Rattle.text.specs.Lines as meaning;
 
 use crate::search::{after, find};
 
+// The most bytes that a program reads of a text.
+pub const LONGEST_TEXT: usize = 65_536;
+
 // The lines of what is left of a text, one by one, without their ends and their comments.
 #[derive(Clone, Copy)]
 pub struct Lines<'a> {
