@@ -34,7 +34,7 @@ impl PreparedTriangle {
         outstandings: [0; ACCIDENT_YEARS],
     };
 
-    // Prepares a triangle in the place of the one before. It fills a value that is lent, since one that is returned is copied whole.
+    // Prepares a triangle of n years, which the arrays of a development do not tell, in the place of the one before. It fills a value that is lent, since one that is returned is copied whole.
     // Inlined, so that the outstandings are copied to where no call could have lent them too, by memcpy.
     #[inline(always)]
     pub fn prepare(&mut self, n: usize, development: &Development)

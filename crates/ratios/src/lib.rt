@@ -53,7 +53,7 @@ pub fn development_of(triangle: Triangle<'_>) -> Development
     }
 }
 
-// The outstandings of development year 1.
+// The outstandings of development year 1. Here and below n stands beside its triangle, which has it as any i64: it is cast once.
 fn first_outstandings(n: usize, triangle: Triangle<'_>) -> [i64; ACCIDENT_YEARS]
     requires { FirstYear n triangle.payments.now triangle.adjustments.now triangle.openings.now }
     ensures { FirstOutstandings n triangle.entry.payments.now triangle.entry.adjustments.now triangle.entry.openings.now result }

@@ -25,7 +25,7 @@ pub const DEVELOPMENT_YEARS: usize = ACCIDENT_YEARS - 1;
 // Of a sum over the accident years, which document 01 does not print: a weight times an amount or an outstanding for each of them but the youngest.
 pub const GREATEST_SUM: i64 = (MOST_YEARS - 1) * GREATEST_WEIGHT * GREATEST_AMOUNT;
 
-// Whether low ≤ x ≤ high.
+// Whether low ≤ x ≤ high. No plainer as `(low..=high).contains(&x)`, whose contract speaks of a partial order.
 pub fn from_to(low: i64, high: i64, x: i64) -> bool
     ensures { result ≡ from_to low high x }
 {
