@@ -35,34 +35,45 @@ both_after {line} {next} {r} {a} {b} first second = record {
 pub line_after : {line r : Line} {a b : List ℕ} → LineIs a line → After line b r → LineIs (a ++ b) r
 line_after {line} {r} {a} {b} first second = record { is = second.is ∙ ap (λ text. fitted (text ++ b)) first.is ∙ fitted_before a b }
 
-pub nothing_after : (line : Line) → After line [] line
-nothing_after line = record {
-  is = sym (fitted_whole (text_of line) (omega (arith, length-take line.length line.bytes, line.in_room))) ∙ ap fitted (sym (append-nil (text_of line)));
+pub nothing_after : (line : Line) → length line.bytes ≡ 512 → After line [] line
+nothing_after line size = record {
+  is = sym (fitted_whole (text_of line) (omega (arith, length-take line.length line.bytes))) ∙ ap fitted (sym (append-nil (text_of line)));
 }
 
 -- ---- What is put into a line
 
 -- as much of a text as has room, put where the line ends
-module _ (line : Line) (size : length line.bytes ≡ 512) (text : List ℕ) (count : ℕ) (count_is : count ≡ min (512 - line.length) (length text)) where
-  text_length : length (text_of line) ≡ line.length
-  text_length = omega (arith, length-take line.length line.bytes, line.in_room)
+module _ (line : Line) (text : List ℕ) (start count : ℕ) where
+  abbrev front : List ℕ
+  front = take start line.bytes
 
-  all_fitted : fitted (text_of line ++ text) ≡ text_of line ++ take (512 - line.length) text
+  front_is : length line.bytes ≡ 512 → start ≡ min line.length 512 → front ≡ text_of line
+  front_is size start_is = ap (λ n. take n line.bytes) (start_is ∙ ap (min line.length) (sym size)) ∙ take_min line.length line.bytes
+
+  front_length : length line.bytes ≡ 512 → start ≡ min line.length 512 → length front ≡ start
+  front_length size start_is = omega (arith, length-take start line.bytes)
+
+  part_is : count ≡ min (512 - start) (length text) → take count text ≡ take (512 - start) text
+  part_is count_is = ap (λ n. take n text) count_is ∙ take_min (512 - start) text
+
+  all_fitted : length line.bytes ≡ 512 → start ≡ min line.length 512 → fitted (text_of line ++ text) ≡ front ++ take (512 - start) text
   unfolding fitted
-  all_fitted =
-      let all : 512 ≡ length (text_of line) + (512 - line.length) = omega (arith, text_length, line.in_room) in
-      ap (λ n. take n (text_of line ++ text)) all ∙ take-append-add (text_of line) text (512 - line.length)
+  all_fitted size start_is =
+      let all : 512 ≡ length front + (512 - start) = omega (arith, front_length size start_is) in
+      ap (λ before. take 512 (before ++ text)) (sym (front_is size start_is))
+      ∙ ap (λ n. take n (front ++ text)) all
+      ∙ take-append-add front text (512 - start)
 
-  pub text_put : (part : List ℕ) (in_room : line.length + count ≤ 512) → part ≡ take count text
-      → After line text (record { bytes = put_mid line.length (line.length + count - line.length) line.bytes part; length = line.length + count; in_room = in_room })
-  text_put part in_room part_there =
-      let rest : List ℕ = drop (line.length + count - line.length) (drop line.length line.bytes) in
-      let long : length (text_of line ++ part) ≡ line.length + count = omega (arith, length-append (text_of line) part, text_length, ap length part_there, length-take count text) in
+  pub text_put : (part : List ℕ) → length line.bytes ≡ 512 → start ≡ min line.length 512 → count ≡ min (512 - start) (length text) → part ≡ take count text
+      → After line text (record { bytes = put_mid start (start + count - start) line.bytes part; length = start + count })
+  text_put part size start_is count_is part_there =
+      let rest : List ℕ = drop (start + count - start) (drop start line.bytes) in
+      let long : length (front ++ part) ≡ start + count = omega (arith, length-append front part, front_length size start_is, ap length part_there, length-take count text) in
       record {
-        is = ap (take (line.length + count)) (sym (append_assoc (text_of line) part rest))
-            ∙ take_at (text_of line ++ part) rest (line.length + count) long
-            ∙ ap (λ put. text_of line ++ put) (part_there ∙ ap (λ n. take n text) count_is ∙ take_min (512 - line.length) text)
-            ∙ sym all_fitted;
+        is = ap (take (start + count)) (sym (append_assoc front part rest))
+            ∙ take_at (front ++ part) rest (start + count) long
+            ∙ ap (λ put. front ++ put) (part_there ∙ part_is count_is)
+            ∙ sym (all_fitted size start_is);
       }
 
 -- ---- Spaces

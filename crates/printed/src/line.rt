@@ -1,5 +1,7 @@
 // A line as its bytes, made from the left.
-ghost use Rattle.std.specs.Prelude.{◌≤◌};
+ghost use Rattle.std.specs.Prelude.{[], ◌∷◌, replicate};
+ghost use Rattle.written_figures.specs.Writing.{space, whole_text};
+ghost use Rattle.printed.specs.Line.{LineIs, After};
 
 use written_figures::writing::whole;
 
@@ -11,18 +13,14 @@ const SPACES: [u8; ROOM] = [b' '; ROOM];
 // A text of `length` bytes, at the start of its room.
 // A line is copied freely, and nothing that makes one can fail: a vector of the library in fixed room is no Copy, and its clone is a Result,
 // as is what a Display writes.
+// Its room is no ghost field: a type that knows it would ask it of whoever makes a line.
 #[derive(Clone, Copy)]
 pub struct Line {
     pub bytes: [u8; ROOM],
     pub length: usize,
-    ghost in_room: { length ≤ 512 },
 }
 
 impl Line {
-    ghost use Rattle.std.specs.Prelude.{[], ◌∷◌, replicate};
-    ghost use Rattle.written_figures.specs.Writing.{space, whole_text};
-    ghost use Rattle.printed.specs.Line.{LineIs, After};
-
     #[tactic(auto, unfolding(crate::specs::Line::fitted))]
     pub fn empty() -> Line
         ensures { LineIs [] result }
@@ -44,7 +42,7 @@ impl Line {
     pub fn with_text(mut self, text: &[u8]) -> Line
         ensures { After self text.now result }
     {
-        let start = self.length;
+        let start = self.length.min(ROOM);
         let count = (ROOM - start).min(text.len());
         self.bytes[start..start + count].copy_from_slice(&text[..count]);
         self.length = start + count;

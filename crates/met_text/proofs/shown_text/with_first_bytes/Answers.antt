@@ -3,6 +3,7 @@ use mathlib.Core.Path.{◌≡◌, ap, ◌∙◌}
 use mathlib.Core.List.{List, map}
 use Prim.Native.Nat.{ℕ}
 use native.Mathlib.Omega.{arith}
+use borrow.Author.Rules.{rules}
 use lib.ListN.{take}
 use lib.Seq.{take_all}
 use Rattle.std.proofs.lemmas.List.{take_min}
@@ -12,7 +13,7 @@ use Rattle.met_text.proofs.ShownTexts.{byte_shown}
 use Rattle.met_text.proofs.shown_text.with_first_bytes.Goals as goal
 
 pub loop-byte-init : goal.loop-byte-init
-loop-byte-init c = nothing_after c.args.line
+loop-byte-init c = nothing_after c.args.line (search rules)
 
 pub loop-byte-preserved : goal.loop-byte-preserved
 loop-byte-preserved c =

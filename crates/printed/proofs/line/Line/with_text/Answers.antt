@@ -6,4 +6,4 @@ use Rattle.printed.proofs.line.Line.with_text.Goals as goal
 pub returns : goal.returns
 returns c =
     let args = c.args in
-    text_put args.self (search rules) args.text.now c.min-count.result c.min-count.ensures c.copy_from_slice.new.self _ c.copy_from_slice.ensures.after
+    text_put args.self args.text.now c.min-start.result c.min-count.result c.copy_from_slice.new.self (search rules) c.min-start.ensures c.min-count.ensures c.copy_from_slice.ensures.after
