@@ -1,5 +1,6 @@
 // Questions 4, 5 and 7, each of the numbers of one list.
 // A list is lent as it is, beside its n: each question is asked once or twice, so that a struct which knows that the two fit would be made and proved for one call.
+// The questions are no twins but calls of one walk: each names its number and its test.
 ghost use Rattle.std.specs.Prelude.{◌≡◌, ◌+◌, ◌≤◌, length};
 ghost use Rattle.method.specs.Limits.{most_accident_years};
 ghost use Rattle.method.specs.Triangle.{amounts_length};

@@ -38,7 +38,7 @@ fn size_of(digits: &[u8]) -> Result<u64, NoFigure>
     Ok(value_of(digits))
 }
 
-// One chain of the library, under a contract by the definition's name.
+// One chain of the library, under a contract by the definition's name; no twin of a search of letters, whose subject is another.
 fn all_digits(text: &[u8]) -> bool
     ensures { result ≡ all_digits text.now }
 {

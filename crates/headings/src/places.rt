@@ -21,7 +21,7 @@ pub struct Heading<'a> {
 pub fn find_heading<'a>(text: Text<'a>, heading: LineKind) -> Option<Heading<'a>>
     ensures { HeadingFound text.entry.bytes.now text.entry.separator heading result }
 {
-    // Not by the iterator, and so not by its enumerate: its promise does not say that what is left is a part of the text.
+    // No plainer by the iterator of lines: it would have to promise of all who use it that what is left is a part of the text.
     let mut line = 0;
     let mut rest = text.bytes;
     while !rest.is_empty() {

@@ -16,7 +16,7 @@ use rows::{AmountList, row_verdict};
 use single_cell::single_cell;
 use verdicts::verdict::{Place, Refusal, Verdict};
 
-// The number of the question that refused the call, and the place; all 0 where it is accepted. In C: juniperprow_verdict.
+// The number of the question that refused the call, and the place; all 0 where it is accepted: numbers and no enum, as the C interface needs. In C: juniperprow_verdict.
 #[repr(C)]
 #[derive(Clone, Copy)]
 pub struct VerdictAnswer {

@@ -75,6 +75,7 @@ fn begins_heading(text: &[u8]) -> bool
     begins_with_letter(text.strip_prefix(b"\"").unwrap_or(text))
 }
 
+// One chain of the library, under a contract by the definition's name.
 fn begins_with_letter(text: &[u8]) -> bool
     ensures { result ≡ meaning.begins_with_letter text.now }
 {

@@ -20,7 +20,7 @@ impl PreparedYear {
     ghost use Rattle.prepared_years.specs.Prepared.{year_sums};
 
     // For a place where no year is prepared. All of it is 0, so that an array of it is cleared at once.
-    // It is no Option: each row would match the year of each of its places, which the triangle knows to be one.
+    // No plainer as an Option: each row would match the year of each of its places, which the triangle knows to be one.
     pub const NONE: PreparedYear = PreparedYear {
         payments: NOTHING,
         adjustments: NOTHING,

@@ -9,7 +9,7 @@ use verdicts::limits::DEVELOPMENT_YEARS;
 
 // Prepares the ratios of every development year of a triangle, those of year k at k − 1, in the array that is lent.
 // The places beyond its years are left as they are. That the array has its length is asked, since a lent array does not say it of itself.
-// By places: in a loop over both lists by zip nothing is known of the one that is written, and no proof could close.
+// By places: no plainer by zip, whose loop knows nothing of the list that it writes.
 pub fn prepare_years(
     n: usize,
     ratios: &[Sums; DEVELOPMENT_YEARS],

@@ -1,4 +1,4 @@
-// Questions 4, 5 and 7 by themselves, each of whole lists in list order. Each reads some of the lists only: the others may be any.
+// Questions 4, 5 and 7 by themselves, each of whole lists in list order. Each takes the lists that it reads and no others: a workbook's call asks question 4 before it has amounts.
 // A list is lent as it is, beside its n: a struct that knew that the two fit would be made for one question.
 ghost use Rattle.std.specs.Prelude.{◌≡◌, List, ℕ, ◌≤◌, ℤ, length};
 ghost use Rattle.method.specs.Limits.{most_accident_years};

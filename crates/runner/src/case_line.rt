@@ -25,6 +25,7 @@ pub(crate) fn work(rt: &impl Print, line: &[u8]) {
 
 // Reads what is lent, and the numbers of the last field, which mean what the call takes them for; 0 where a field has fewer.
 // There is room for the lists of 33 accident years, one more than a triangle may have. A case with more is printed as malformed.
+// The room is fixed: reading into a list that grows could fail where memory runs out, which no line says.
 fn try_case(rt: &impl Print, fields: Text<'_>) {
     let mut payments = [0; 561];
     let mut adjustments = [0; 561];

@@ -44,6 +44,7 @@ pub fn read_into(
 }
 
 // The first development year whose exposure is not above 0, if there is one. By k and no iterator over sums: it is the place of the refusal too.
+// n stands beside the ratios, whose array is of the largest size.
 fn question_8(n: usize, ratios: &[Sums; DEVELOPMENT_YEARS]) -> Verdict
     requires { n ≤ most_accident_years }
     ensures { verdict_of result ≡ exposures n ratios.now }

@@ -18,7 +18,7 @@ use workbook_cells::{amount_of, cell_of};
 
 // The first refusal of questions 11 to 13, if there is one.
 // `convertible` says whether every cell could be converted, so that 11 and 12 need not be asked: they are, to find number and place, only where one could not.
-// Kept as no Option: no value lies beside it.
+// No plainer as an Option: no value lies beside it.
 #[tactic(auto, using(crate::proofs::Convertible::convertible_accepted, method::proofs::FirstRefusal::then_goes_on, method::proofs::FirstRefusal::then_stops, verdicts::proofs::Refusals::handed_on))]
 pub fn questions_11_to_13(
     n: usize,
