@@ -11,9 +11,7 @@ use Rattle.method.specs.Limits.{greatest_amount}
 use Rattle.method.specs.Tests.{from_to}
 use Rattle.printed.specs.Filling.{filled, places}
 use Rattle.printed.proofs.Room.{one_of_two, filled_fits}
-use Rattle.verdicts.specs.declared.verdict.Place.{Place}
-use Rattle.method.specs.Triangle.{Triangle}
-use Rattle.std.specs.Prelude.{Option}
+use Rattle.refusals.specs.declared.found.Lent.{Lent}
 use Rattle.refusals.specs.declared.found.Found.{Found}
 use Rattle.refusals.specs.Sentences.{refused_line, years_sentence, cut_sentence, lengths_sentence, weight_sentence, weight_not_0_sentence, amount_sentence, opening_sentence, outstanding_sentence, exposure_sentence, projected_sentence, seen_cell_sentence, amounts_sentence, observed_sentence, sentence, see_line, see_lines}
 
@@ -33,9 +31,9 @@ cut_fits : (cut years : ℤ) → length (cut_sentence cut years) ≤ 511
 unfolding cut_sentence places
 cut_fits cut years = filled_fits 511 _ _ refl
 
-lengths_fits : (t : Triangle) → length (lengths_sentence t) ≤ 511
+lengths_fits : (lent : Lent) → length (lengths_sentence lent) ≤ 511
 unfolding lengths_sentence places
-lengths_fits t = filled_fits 511 _ _ refl
+lengths_fits lent = filled_fits 511 _ _ refl
 
 module _ (i k : ℤ) where
   weight_fits : (x : ℤ) → length (weight_sentence i k x) ≤ 511
@@ -81,12 +79,12 @@ exposure_fits : (k : ℤ) → length (exposure_sentence k) ≤ 511
 unfolding exposure_sentence places
 exposure_fits k = filled_fits 511 _ _ refl
 
-pub sentence_fits : (question : ℕ) (i k : ℤ) (t : Triangle) (asked : Option Place) (found : Found) → length (sentence question i k t asked found) ≤ 511
+pub sentence_fits : (question : ℕ) (i k : ℤ) (lent : Lent) (found : Found) → length (sentence question i k lent found) ≤ 511
 unfolding sentence
-sentence_fits question i k t asked found =
-    either (eqb question 1) _ _ (years_fits t.years)
-    (either (eqb question 2) _ _ (cut_fits t.cut t.years)
-    (either (eqb question 3) _ _ (lengths_fits t)
+sentence_fits question i k lent found =
+    either (eqb question 1) _ _ (years_fits lent.years)
+    (either (eqb question 2) _ _ (cut_fits lent.cut lent.years)
+    (either (eqb question 3) _ _ (lengths_fits lent)
     (either (eqb question 4) _ _ (weight_fits i k found.weight)
     (either (eqb question 5) _ _ (amounts_fit i k found)
     (either (eqb question 6) _ _ (observed_fits i k found)

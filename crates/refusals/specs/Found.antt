@@ -1,10 +1,24 @@
--- What stands at the place of a refusal, in the words of the crates `method` and `completed`.
-use Rattle.std.specs.Prelude.{◌≡◌, List, ℕ, ◌+◌, ◌-◌, eqb, ℤ, pos}
+-- What was lent, and what stands at the place of a refusal, in the words of the crates `method` and `completed`.
+use Rattle.std.specs.Prelude.{◌≡◌, Option, List, length, ℕ, ◌+◌, ◌-◌, eqb, ℤ, pos}
 use Rattle.method.specs.Tests.{amount_right}
-use Rattle.method.specs.Triangle.{cell}
+use Rattle.method.specs.Triangle.{Triangle, cell}
 use Rattle.completed.specs.Square.{CellOfSquare}
 use Rattle.completed.specs.Completed.{of_lists, OutstandingAt}
+use Rattle.verdicts.specs.declared.verdict.Place.{Place}
+use Rattle.refusals.specs.declared.found.Lent.{Lent}
 use Rattle.refusals.specs.declared.found.Found.{Found}
+
+-- what is said of a triangle that was lent, and of the cell that was asked for
+abbrev pub lent_of : Triangle → Option Place → Lent
+lent_of t asked = record {
+  years = t.years;
+  cut = t.cut;
+  asked = asked;
+  payments = length t.payments;
+  adjustments = length t.adjustments;
+  weights = length t.weights;
+  openings = length t.openings;
+}
 
 -- r is cell (i, k) of a list, where there is such a cell.
 pub record CellIn (n : ℕ) (list : List ℤ) (i k : ℕ) (r : ℤ) : Type 0 where

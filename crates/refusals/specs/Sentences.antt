@@ -1,5 +1,5 @@
 -- What is printed of a refusal by a question. docs/FORMAT.md has the table of these sentences.
-use Rattle.std.specs.Prelude.{Bool, true, false, cond, List, [], ◌∷◌, ℕ, eqb, ℤ, pos, neg_ℤ, ◌+ℤ◌, ◌-ℤ◌, length, Option}
+use Rattle.std.specs.Prelude.{Bool, true, false, cond, List, [], ◌∷◌, ℕ, eqb, ℤ, pos, neg_ℤ, ◌+ℤ◌, ◌-ℤ◌, Option}
 use Rattle.std.specs.Int.Signed.{lt_z}
 use Rattle.std.specs.Option.{unwrap_or}
 use Rattle.figures.specs.Bytes.{bytes}
@@ -7,11 +7,12 @@ use Rattle.exact_sums.specs.Exact.{exact_of}
 use Rattle.method.specs.Limits.{greatest_amount}
 use Rattle.method.specs.Tests.{from_to}
 use Rattle.completed.specs.Completed.{number_or_0}
-use Rattle.method.specs.Triangle.{Triangle, amounts_length, weights_length, openings_length}
+use Rattle.method.specs.Triangle.{amounts_length, weights_length, openings_length}
 use Rattle.refusals.specs.Counts.{count_of}
 use Rattle.printed.specs.Counts.{as_number}
 use Rattle.printed.specs.Filling.{filled}
 use Rattle.verdicts.specs.declared.verdict.Place.{Place}
+use Rattle.refusals.specs.declared.found.Lent.{Lent}
 use Rattle.refusals.specs.declared.found.Found.{Found}
 use Rattle.refusals.specs.declared.lines.InText.{InText}
 use Rattle.refusals.specs.declared.lines.InText.TheVariants.{Nowhere, PaymentsRow, AdjustmentsRow, BothRows, WeightsRow, OpeningsHeading}
@@ -37,15 +38,15 @@ cut_sentence cut years =
     (cut ∷ exact_or_0 (years -ℤ pos 1) ∷ [])
 
 -- The length of each list, and the length that question 3 wants for n years and the cut Y.
-unfoldable pub lengths_sentence : Triangle → List ℕ
-lengths_sentence t =
-    let n : ℕ = count_of t.years in
-    let Y : ℕ = count_of t.cut in
+unfoldable pub lengths_sentence : Lent → List ℕ
+lengths_sentence lent =
+    let n : ℕ = count_of lent.years in
+    let Y : ℕ = count_of lent.cut in
     filled (bytes "A block does not have its number of figures: payments @ of @, adjustments @ of @, weights @ of @, openings @ of @.")
-    (as_number (length t.payments) ∷ as_number (amounts_length n)
-    ∷ as_number (length t.adjustments) ∷ as_number (amounts_length n)
-    ∷ as_number (length t.weights) ∷ as_number (weights_length n)
-    ∷ as_number (length t.openings) ∷ as_number (openings_length Y) ∷ [])
+    (as_number lent.payments ∷ as_number (amounts_length n)
+    ∷ as_number lent.adjustments ∷ as_number (amounts_length n)
+    ∷ as_number lent.weights ∷ as_number (weights_length n)
+    ∷ as_number lent.openings ∷ as_number (openings_length Y) ∷ [])
 
 -- ---- At the place (i, k), where x is the number that is wrong
 
@@ -110,19 +111,19 @@ unfoldable pub observed_sentence : ℤ → ℤ → Found → List ℕ
 observed_sentence i k found =
     cond found.opening (opening_sentence i k found.outstanding) (outstanding_sentence i k found.outstanding)
 
--- t is the triangle that was lent.
-unfoldable pub sentence : ℕ → ℤ → ℤ → Triangle → Option Place → Found → List ℕ
-sentence question i k t asked found =
-    cond (eqb question 1) (years_sentence t.years)
-    (cond (eqb question 2) (cut_sentence t.cut t.years)
-    (cond (eqb question 3) (lengths_sentence t)
+-- A number that no question has, as 0 or 14, has question 10's sentence.
+unfoldable pub sentence : ℕ → ℤ → ℤ → Lent → Found → List ℕ
+sentence question i k lent found =
+    cond (eqb question 1) (years_sentence lent.years)
+    (cond (eqb question 2) (cut_sentence lent.cut lent.years)
+    (cond (eqb question 3) (lengths_sentence lent)
     (cond (eqb question 4) (weight_sentence i k found.weight)
     (cond (eqb question 5) (amounts_sentence i k found)
     (cond (eqb question 6) (observed_sentence i k found)
     (cond (eqb question 7) (weight_not_0_sentence i k found.weight)
     (cond (eqb question 8) (exposure_sentence k)
     (cond (eqb question 9) (projected_sentence i k)
-    (asked_sentence asked)))))))))
+    (asked_sentence lent.asked)))))))))
 
 abbrev pub amounts_in_text : Bool → InText
 amounts_in_text true = AdjustmentsRow

@@ -1,8 +1,9 @@
-// What stands at the place of a refusal: the numbers that its sentence speaks of.
+// What was lent, and what stands at the place of a refusal: the numbers that its sentence speaks of.
 ghost use Rattle.std.specs.Prelude.{◌≡◌, ◌≤◌};
 ghost use Rattle.method.specs.Limits.{most_accident_years};
+ghost use Rattle.lent.specs.Triangles.{triangle_of};
 ghost use Rattle.refusals.specs.Counts.{count_of, count_or_0};
-ghost use Rattle.refusals.specs.Found.{CellIn, OutstandingIn, FoundAt};
+ghost use Rattle.refusals.specs.Found.{lent_of, CellIn, OutstandingIn, FoundAt};
 
 use crate::counts::{count_of, count_or_0};
 use cells::one_list::amount_right;
@@ -10,6 +11,35 @@ use completed::outstanding::ObservedLists;
 use completed::square::cell_of_square;
 use lent::Triangle;
 use verdicts::verdict::Place;
+
+// What was lent: the number of accident years, the cut, the cell that is asked for, and the lengths of the lists.
+#[derive(Clone, Copy)]
+pub struct Lent {
+    pub years: i64,
+    pub cut: i64,
+    pub asked: Option<Place>,
+    pub payments: usize,
+    pub adjustments: usize,
+    pub weights: usize,
+    pub openings: usize,
+}
+
+impl Lent {
+    // A triangle, and the cell that is asked for.
+    pub fn of(triangle: Triangle<'_>, asked: Option<Place>) -> Lent
+        ensures { result ≡ lent_of (triangle_of triangle.entry) asked }
+    {
+        Lent {
+            years: triangle.years,
+            cut: triangle.cut,
+            asked,
+            payments: triangle.payments.len(),
+            adjustments: triangle.adjustments.len(),
+            weights: triangle.weights.len(),
+            openings: triangle.openings.len(),
+        }
+    }
+}
 
 // What stands at a place. The flags stand beside the numbers, and no enum holds one of them: each number is promised, whichever a sentence takes.
 #[derive(Clone, Copy)]

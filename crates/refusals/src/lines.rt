@@ -1,54 +1,84 @@
 // What is printed of a refusal by a question: its number and its place, what is wrong there, and where the text has it.
-ghost use Rattle.std.specs.Prelude.{◌≡◌};
-ghost use Rattle.lent.specs.Triangles.{triangle_of};
+ghost use Rattle.std.specs.Prelude.{◌≡◌, ◌≢◌, MatchOption};
 ghost use Rattle.verdicts.specs.Verdicts.{number_of};
+ghost use Rattle.verdicts.specs.declared.verdict.Question.{Question};
 ghost use Rattle.printed.specs.Line.{LineIs};
 ghost use Rattle.refusals.specs.Sentences as meaning;
 
-use crate::found::Found;
+use crate::found::{Found, Lent};
 use crate::sentences::{
     amount_sentence, cut_sentence, exposure_sentence, lengths_sentence, outstanding_sentence,
     seen_cell_sentence,
 };
-use lent::Triangle;
 use printed::counts::signed;
 use printed::filling::filled;
 use printed::line::Line;
-use verdicts::verdict::{Place, Question, Refusal};
+use verdicts::verdict::{Place, Question};
 
 // The first line: the question and its place.
 #[tactic(auto, using(integers::proofs::MachineArithmetic::held), unfolding(crate::specs::Sentences::refused_line))]
-pub fn refused_line(refusal: Refusal) -> Line
-    ensures { LineIs (meaning.refused_line (number_of refusal.question) refusal.place.accident_year refusal.place.development_year) result }
+pub fn refused_line(question: u8, place: Place) -> Line
+    ensures { LineIs (meaning.refused_line question place.accident_year place.development_year) result }
 {
-    let place = refusal.place;
-    let number = i64::from(refusal.question.number());
     filled(
         b"refused by question @ at (@, @)",
-        &[number, place.accident_year, place.development_year],
+        &[
+            i64::from(question),
+            place.accident_year,
+            place.development_year,
+        ],
     )
 }
 
-// The second line: what is wrong. The cell that is asked for is one that question 10 refuses.
-#[tactic(auto, using(integers::proofs::MachineArithmetic::held), unfolding(crate::specs::Sentences::sentence))]
-pub fn sentence(
-    refusal: Refusal,
-    triangle: Triangle<'_>,
-    asked: Option<Place>,
-    found: Found,
-) -> Line
-    ensures { LineIs (meaning.sentence (number_of refusal.question) refusal.place.accident_year refusal.place.development_year (triangle_of triangle.entry) asked found) result }
+// The second line: what is wrong. A number that no question has is told as question 10's.
+pub fn sentence(question: u8, place: Place, lent: Lent, found: Found) -> Line
+    ensures { LineIs (meaning.sentence question place.accident_year place.development_year lent found) result }
 {
-    let i = refusal.place.accident_year;
-    let k = refusal.place.development_year;
+    match question_of(question) {
+        Some(question) => sentence_of(question, place, lent, found),
+        None => seen_cell_sentence(lent.asked),
+    }
+}
+
+// The question that has this number.
+fn question_of(number: u8) -> Option<Question>
+    ensures { MatchOption result
+        ((question : Question) → number_of question ≢ number)
+        (λ question. number_of question ≡ number) }
+{
+    match number {
+        1 => Some(Question::Years),
+        2 => Some(Question::Cut),
+        3 => Some(Question::Lengths),
+        4 => Some(Question::WeightInRange),
+        5 => Some(Question::AmountRight),
+        6 => Some(Question::OutstandingInRange),
+        7 => Some(Question::WeightAllowed),
+        8 => Some(Question::Exposure),
+        9 => Some(Question::ProjectedFigure),
+        10 => Some(Question::YearsAsked),
+        11 => Some(Question::KindKnown),
+        12 => Some(Question::NumberWhole),
+        13 => Some(Question::BlankWhereMissing),
+        _ => None,
+    }
+}
+
+// The cell that is asked for is one that question 10 refuses.
+#[tactic(auto, using(integers::proofs::MachineArithmetic::held), unfolding(crate::specs::Sentences::sentence))]
+fn sentence_of(question: Question, place: Place, lent: Lent, found: Found) -> Line
+    ensures { LineIs (meaning.sentence (number_of question) place.accident_year place.development_year lent found) result }
+{
+    let i = place.accident_year;
+    let k = place.development_year;
     let weight = [i, k, found.weight];
-    match refusal.question {
+    match question {
         Question::Years => filled(
             b"The number of accident years is @ and not from 2 to 32: it is the number of rows of payments.",
-            &[triangle.years],
+            &[lent.years],
         ),
-        Question::Cut => cut_sentence(triangle.cut, triangle.years),
-        Question::Lengths => lengths_sentence(triangle),
+        Question::Cut => cut_sentence(lent.cut, lent.years),
+        Question::Lengths => lengths_sentence(lent),
         Question::WeightInRange => filled(
             b"The weight of accident year @ in development year @ is @ and not from 0 to 100.",
             &weight,
@@ -68,7 +98,7 @@ pub fn sentence(
         Question::YearsAsked
         | Question::KindKnown
         | Question::NumberWhole
-        | Question::BlankWhereMissing => seen_cell_sentence(asked),
+        | Question::BlankWhereMissing => seen_cell_sentence(lent.asked),
     }
 }
 
@@ -119,8 +149,17 @@ pub enum InText {
 }
 
 // The rows or the heading that hold what is wrong.
+pub fn in_text(question: u8, found: Found) -> InText
+    ensures { result ≡ meaning.in_text question found }
+{
+    match question_of(question) {
+        Some(question) => in_text_of(question, found),
+        None => InText::Nowhere,
+    }
+}
+
 #[tactic(auto, unfolding(crate::specs::Sentences::in_text))]
-pub fn in_text(question: Question, found: Found) -> InText
+fn in_text_of(question: Question, found: Found) -> InText
     ensures { result ≡ meaning.in_text (number_of question) found }
 {
     match question {

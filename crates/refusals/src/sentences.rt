@@ -1,11 +1,10 @@
 // The sentences of refusals whose numbers follow from others, or whose words do.
-ghost use Rattle.lent.specs.Triangles.{triangle_of};
 ghost use Rattle.printed.specs.Line.{LineIs};
 ghost use Rattle.refusals.specs.Sentences as meaning;
 
 use crate::counts::count_of;
+use crate::found::Lent;
 use exact_sums::exact::{difference, sum};
-use lent::Triangle;
 use printed::counts::signed;
 use printed::filling::filled;
 use printed::line::Line;
@@ -26,20 +25,20 @@ pub(crate) fn cut_sentence(cut: i64, years: i64) -> Line
 }
 
 // Each list with its length, and the length that it should have.
-pub(crate) fn lengths_sentence(triangle: Triangle<'_>) -> Line
-    ensures { LineIs (meaning.lengths_sentence (triangle_of triangle.entry)) result }
+pub(crate) fn lengths_sentence(lent: Lent) -> Line
+    ensures { LineIs (meaning.lengths_sentence lent) result }
 {
-    let n = count_of(triangle.years);
+    let n = count_of(lent.years);
     let amounts = signed(amounts_length(n));
     let numbers = [
-        signed(triangle.payments.len()),
+        signed(lent.payments),
         amounts,
-        signed(triangle.adjustments.len()),
+        signed(lent.adjustments),
         amounts,
-        signed(triangle.weights.len()),
+        signed(lent.weights),
         signed(weights_length(n)),
-        signed(triangle.openings.len()),
-        signed(count_of(triangle.cut).saturating_sub(1)),
+        signed(lent.openings),
+        signed(count_of(lent.cut).saturating_sub(1)),
     ];
     filled(
         b"A block does not have its number of figures: payments @ of @, adjustments @ of @, weights @ of @, openings @ of @.",

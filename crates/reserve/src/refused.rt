@@ -5,7 +5,7 @@ use headings::places::{find_heading, row_line};
 use line_kinds::kinds::LineKind;
 use line_parts::cells::Text;
 use refusals::counts::count_of;
-use refusals::found::found_at;
+use refusals::found::{Lent, found_at};
 use refusals::lines::{InText, in_text, refused_line, see_line, see_lines, sentence};
 use std::io;
 use triangle_text::reading::without_mark;
@@ -16,16 +16,18 @@ pub(crate) fn print_refusal(
     read: ReadText<'_, '_>,
     refusal: Refusal,
 ) -> io::Result<()> {
+    let question = refusal.question.number();
+    let lent = Lent::of(read.triangle, read.asked.cell);
     let found = found_at(read.triangle, refusal.place);
     print_two(
         rt,
-        refused_line(refusal),
-        sentence(refusal, read.triangle, read.asked.cell, found),
+        refused_line(question, refusal.place),
+        sentence(question, refusal.place, lent, found),
     )?;
     print_where(
         rt,
         Text::new(without_mark(read.text)),
-        in_text(refusal.question, found),
+        in_text(question, found),
         count_of(refusal.place.accident_year),
     )
 }

@@ -9,9 +9,9 @@ use Rattle.refusals.proofs.sentences.lengths_sentence.Goals as goal
 pub returns : goal.returns
 unfolding lengths_sentence
 returns c =
-    let triangle = c.args.triangle in
-    let n_is = simp (held triangle.years (omega arith)) at c.count_of-n.ensures.0 in
-    let cut_is = simp (held triangle.cut (omega arith)) at c.count_of.ensures.0 in
+    let lent = c.args.lent in
+    let n_is = simp (held lent.years (omega arith)) at c.count_of-n.ensures.0 in
+    let cut_is = simp (held lent.cut (omega arith)) at c.count_of.ensures.0 in
     let amounts_is = c.signed-amounts.ensures ∙ ap as_number c.amounts_length.ensures in
     let weights_is = c.signed-4.ensures ∙ ap as_number c.weights_length.ensures in
     let openings_is = c.signed-6.ensures ∙ ap as_number c.saturating_sub.ensures in
