@@ -48,11 +48,12 @@ pub fn read_row(
     row_end(rest, openings, list.len())
 }
 
-// Whether a row of openings ends here: nothing but blank cells is left. Another row ends where the list is full.
+// Whether a row of openings ends here: nothing but blank cells is left. Another row ends where the list is full,
+// so that what is left of it is not looked through before each of its cells.
 fn ends_here(rest: Text<'_>, openings: bool) -> bool
     ensures { result ≡ ends_here openings (from_content rest.entry.separator rest.entry.bytes.now) }
 {
-    openings & is_blank(rest)
+    openings && is_blank(rest)
 }
 
 fn is_blank(rest: Text<'_>) -> bool

@@ -7,10 +7,7 @@ use native.Mathlib.Omega.{arith}
 use lib.Dec.{eqb}
 use lib.ListN.{length, length-map, get_or, drop, drop_of_length-le}
 use lib.Seq.{drop-cons}
-use Rattle.std.specs.Prelude.{Option, None, Some}
-use Rattle.std.proofs.Common.{Bor}
-use Rattle.std.specs.List.{slice_get}
-use Rattle.std.specs.Option.{option_map, unwrap_or}
+use Rattle.std.proofs.lemmas.List.{length-drop}
 use Rattle.text.specs.Bytes.{line_feed, carriage_return}
 use Rattle.text.specs.Lines.{first_of, others_of, with_byte, line_feed_follows, whole_lines, without_comment, lines, AfterLine}
 
@@ -56,20 +53,18 @@ no_lines text start h = rw (drop_of_length-le text h)
 pub first_and_others : (text rest : List ℕ) → 0 < length text → AfterLine text rest → lines text ≡ first_of (lines text) ∷ lines rest
 first_and_others text rest more after = lines_from text 0 more ∙ ap (λ others. first_of (lines text) ∷ others) (sym after.others)
 
--- ---- A line by its number
+-- ---- Lines that are passed
 
-line_got : (number : ℕ) (all : List (List ℕ)) → unwrap_or (slice_get all number) [] ≡ first_of (drop number all)
-line_got zero [] = refl
-line_got (suc number) [] = refl
-line_got zero (line ∷ others) = refl
-line_got (suc number) (line ∷ others) = line_got number others
+-- Where some lines are passed, the others are passed too with the first of what is left.
+pub one_more_passed : (passed : ℕ) (all : List (List ℕ)) → others_of (drop passed all) ≡ drop (suc passed) all
+one_more_passed zero [] = refl
+one_more_passed zero (line ∷ others) = refl
+one_more_passed (suc passed) [] = refl
+one_more_passed (suc passed) (line ∷ others) = one_more_passed passed others
 
--- the line that the iterator gave, or an empty text where there are fewer
-pub line_given : (text : List ℕ) (number : ℕ) (given : Option (Bor (List ℕ))) (other : Bor (List ℕ)) → other.now ≡ []
-    → option_map (λ (line : Bor (List ℕ)). line.now) given ≡ slice_get (lines text) number
-    → (unwrap_or given other).now ≡ first_of (drop number (lines text))
-line_given text number None other empty e = empty ∙ ap (λ line. unwrap_or line []) e ∙ line_got number (lines text)
-line_given text number (Some line) other empty e = ap (λ line. unwrap_or line []) e ∙ line_got number (lines text)
+-- Where none is left, none is left after more.
+pub none_left : (passed more : ℕ) (all : List (List ℕ)) → drop passed all ≡ [] → passed ≤ more → drop more all ≡ []
+none_left passed more all none h = drop_of_length-le all (omega (arith, ap length none, length-drop passed all))
 
 -- ---- How many lines a text has
 

@@ -46,7 +46,7 @@ fn without_comment(line: &[u8]) -> &[u8]
 {
     let mut may_begin = true;
     for (at, byte) in line.iter().enumerate() {
-        if may_begin & begins_comment(&line[at..]) {
+        if may_begin && begins_comment(&line[at..]) {
             return &line[..at];
         }
         may_begin = *byte == b' ';
@@ -58,7 +58,7 @@ fn without_comment(line: &[u8]) -> &[u8]
 fn begins_comment(text: &[u8]) -> bool
     ensures { result ≡ begins_comment text.now }
 {
-    text.starts_with(b"# ") & without_return(text)
+    text.starts_with(b"# ") && without_return(text)
 }
 
 fn without_return(text: &[u8]) -> bool
@@ -87,9 +87,17 @@ pub fn after_line(text: &[u8]) -> &[u8]
 }
 
 // A line of a text, counted from 1, without its end and its comment; empty where there are fewer.
+// The lines before it are passed by their ends, and not by `nth` of `Lines`, which looks for the comment of each.
 pub fn line_at(text: &[u8], number: usize) -> &[u8]
     ensures { result.now ≡ line_of number (lines text.now) }
 {
     let before = number.saturating_sub(1);
-    Lines { rest: text }.nth(before).unwrap_or(&[])
+    let mut rest = text;
+    for _ in 0..before {
+        if rest.is_empty() {
+            break;
+        }
+        rest = after_line(rest);
+    }
+    first_line(rest)
 }
