@@ -1,45 +1,28 @@
-// One unseen cell alone.
+// One unseen cell alone, by the call of a host, which is handed zeros where it is refused.
 use crate::printing::{print_amount, print_verdict, print_whether};
 use juniperprow::juniperprow_single_cell;
 use lent::Triangle;
-use single_cell::single_cell;
-use verdicts::verdict::Place;
 
-// Prints the verdict, and the cell's figures or whether a host is refused too and handed zeros.
+// Prints the verdict, and the cell's figures or whether they are zeros.
 pub(crate) fn try_cell(rt: &impl Print, triangle: Triangle<'_>, call_numbers: [i64; 3]) {
     let [accident_year, development_year, _] = call_numbers;
-    let cell = Place {
-        accident_year,
-        development_year,
-    };
-    match single_cell(triangle, cell) {
-        Ok(figures) => {
-            print_verdict(rt, Ok(()));
-            print_amount(rt, b", payment ", figures.payment.0);
-            print_amount(rt, b", adjustment ", figures.adjustment.0);
-            print_amount(rt, b", outstanding ", figures.outstanding.0);
-        }
-        Err(refusal) => {
-            print_verdict(rt, Err(refusal));
-            let zeros = refused_with_zeros(triangle, cell);
-            print_whether(rt, zeros, b"all zeros");
-        }
-    }
-}
-
-fn refused_with_zeros(triangle: Triangle<'_>, cell: Place) -> bool {
-    let answer = juniperprow_single_cell(
+    let cell = juniperprow_single_cell(
         triangle.years,
         triangle.cut,
         triangle.payments,
         triangle.adjustments,
         triangle.weights,
         triangle.openings,
-        cell.accident_year,
-        cell.development_year,
+        accident_year,
+        development_year,
     );
-    (answer.verdict.number != 0)
-        & (answer.payment == 0)
-        & (answer.adjustment == 0)
-        & (answer.outstanding == 0)
+    print_verdict(rt, cell.verdict);
+    if cell.verdict.number == 0 {
+        print_amount(rt, b", payment ", cell.payment);
+        print_amount(rt, b", adjustment ", cell.adjustment);
+        print_amount(rt, b", outstanding ", cell.outstanding);
+    } else {
+        let zeros = (cell.payment == 0) & (cell.adjustment == 0) & (cell.outstanding == 0);
+        print_whether(rt, zeros, b"all zeros");
+    }
 }

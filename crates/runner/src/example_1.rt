@@ -6,6 +6,7 @@ use crate::example_1_tables::{
 use crate::printing::{print, print_amount, print_number, print_verdict, print_whether};
 use calls::reserve::reserve;
 use exact_sums::exact::difference;
+use juniperprow::VerdictAnswer;
 use lent::Triangle;
 use verdicts::limits::from_to;
 
@@ -24,7 +25,7 @@ pub(crate) fn compare(rt: &impl Print) {
     };
     let verdict = reserve(triangle, &mut future, &mut reserves);
     print(rt, b"Example 1: ");
-    print_verdict(rt, verdict);
+    print_verdict(rt, VerdictAnswer::from(verdict));
     print(rt, b"\n");
     print_years(rt, reserves);
 }

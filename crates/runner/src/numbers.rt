@@ -9,17 +9,17 @@ use figures::reading::figure_of;
 pub(crate) fn read_numbers<'a>(rt: &impl Print, field: &[u8], room: &'a mut [i64]) -> &'a [i64]
     ensures { length result.now ≤ length room.old }
 {
-    for (place, word) in room
-        .iter_mut()
-        .zip(field.split_inclusive(|byte| *byte == b' '))
-    {
-        *place = number_of(rt, word.strip_suffix(b" ").unwrap_or(word));
+    let mut words = field.split_inclusive(|byte| *byte == b' ');
+    for place in 0..room.len() {
+        let Some(word) = words.next() else {
+            return &room[..place];
+        };
+        room[place] = number_of(rt, word.strip_suffix(b" ").unwrap_or(word));
     }
-    let count = field.split_inclusive(|byte| *byte == b' ').count();
-    if count > room.len() {
+    if words.next().is_some() {
         print(rt, b"malformed, numbers are left out: ");
     }
-    &room[..count.min(room.len())]
+    room
 }
 
 // The number that a word is. Where it is none of 64 bits, the case is printed as malformed, and 0 stands for it.

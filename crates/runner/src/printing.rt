@@ -1,5 +1,5 @@
 // What is printed: texts, numbers, amounts and verdicts.
-use verdicts::verdict::Verdict;
+use juniperprow::VerdictAnswer;
 use written_figures::writing::{amount, whole};
 
 // A write that fails is passed over: whoever compares what was printed sees it.
@@ -19,16 +19,15 @@ pub(crate) fn print_amount(rt: &impl Print, text: &[u8], millionths: i64) {
     print(rt, amount(millionths).text());
 }
 
-// The number and the place of a refusal.
-pub(crate) fn print_verdict(rt: &impl Print, verdict: Verdict) {
-    match verdict {
-        Ok(()) => print(rt, b"accepted"),
-        Err(refusal) => {
-            print_number(rt, b"refused by ", i64::from(refusal.question.number()));
-            print_number(rt, b" at (", refusal.place.accident_year);
-            print_number(rt, b", ", refusal.place.development_year);
-            print(rt, b")");
-        }
+// Accepted, or the number and the place of a refusal, as a host is told them.
+pub(crate) fn print_verdict(rt: &impl Print, verdict: VerdictAnswer) {
+    if verdict.number == 0 {
+        print(rt, b"accepted");
+    } else {
+        print_number(rt, b"refused by ", verdict.number);
+        print_number(rt, b" at (", verdict.accident_year);
+        print_number(rt, b", ", verdict.development_year);
+        print(rt, b")");
     }
 }
 

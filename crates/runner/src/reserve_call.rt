@@ -3,6 +3,7 @@ ghost use Rattle.std.specs.Prelude.{◌≤◌};
 
 use crate::printing::{print_amount, print_verdict, print_whether};
 use calls::reserve::reserve;
+use juniperprow::VerdictAnswer;
 use lent::Triangle;
 use lists::number_at;
 
@@ -15,7 +16,7 @@ pub(crate) fn try_reserve(rt: &impl Print, triangle: Triangle<'_>, call_numbers:
     let future = &mut future_room[..within(future_length, 1584)];
     let reserves = &mut reserves_room[..within(reserves_length, 99)];
     let verdict = reserve(triangle, future, reserves);
-    print_verdict(rt, verdict);
+    print_verdict(rt, VerdictAnswer::from(verdict));
     match verdict {
         Ok(()) => print_reserves(rt, reserves, place),
         Err(_) => print_whether(rt, all_zeros(future) & all_zeros(reserves), b"all zeros"),

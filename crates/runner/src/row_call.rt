@@ -1,5 +1,6 @@
 // One accident year's row.
 use crate::printing::{print, print_number, print_verdict, print_whether};
+use juniperprow::VerdictAnswer;
 use lent::Triangle;
 use rows::{AmountList, row, row_verdict};
 
@@ -15,7 +16,7 @@ pub(crate) fn try_row(
     let adjustments = triangle.adjustments;
     let numbers = row(years, payments, adjustments, named, accident_year);
     let verdict = row_verdict(years, payments, adjustments, named, accident_year);
-    print_verdict(rt, verdict);
+    print_verdict(rt, VerdictAnswer::from(verdict));
     match verdict {
         Ok(()) => print_numbers(rt, numbers),
         Err(_) => print_whether(rt, numbers.is_empty(), b"empty"),
