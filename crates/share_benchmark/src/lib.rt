@@ -71,8 +71,9 @@ fn take_shares(ratio: Ratio, exposure: u64, figures: &mut [i64])
     requires { Ready ratio exposure }
     ensures { figures.new ≡ map (share_number (part_of ratio exposure) (pos exposure)) figures.old }
 {
-    for figure in figures.iter_mut() {
-        *figure = share_of(*figure, ratio, exposure);
+    // By places: over the list's own iterator, that a part of the list is left out could only be refused for its form.
+    for j in 0..figures.len() {
+        figures[j] = share_of(figures[j], ratio, exposure);
     }
 }
 

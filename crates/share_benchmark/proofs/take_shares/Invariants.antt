@@ -4,6 +4,6 @@ use Rattle.prepared_ratios.specs.Ratio.{part_of}
 use Rattle.share_benchmark.specs.Shares.{share_number}
 use Rattle.share_benchmark.proofs.take_shares.Given as goal
 
-abbrev pub invariant-loop-figure : goal.invariant-loop-figure
-invariant-loop-figure l =
-    l.figures ≡ map (share_number (part_of l.ratio l.exposure) (pos l.exposure)) (take l.figure-index l.initial.figures) ++ drop l.figure-index l.initial.figures
+abbrev pub invariant-loop-j : goal.invariant-loop-j
+invariant-loop-j l =
+    l.figures ≡ map (share_number (part_of l.ratio l.exposure) (pos l.exposure)) (take l.j l.initial.figures) ++ drop l.j l.initial.figures
