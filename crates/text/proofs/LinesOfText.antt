@@ -55,7 +55,7 @@ first_and_others text rest more after = lines_from text 0 more ∙ ap (λ others
 
 -- ---- Lines that are passed
 
--- Where some lines are passed, the others are passed too with the first of what is left.
+-- What is left after one line more is what follows the first of the lines that are left.
 pub one_more_passed : (passed : ℕ) (all : List (List ℕ)) → others_of (drop passed all) ≡ drop (suc passed) all
 one_more_passed zero [] = refl
 one_more_passed zero (line ∷ others) = refl
